@@ -1,0 +1,4 @@
+pub mod Bursts
+pub mod Distance
+pub mod Parity
+pub mod Records
