@@ -1,0 +1,9 @@
+pub mod Messages
+pub mod Functions
+pub mod Records
+pub mod Links
+pub mod Telegrams
+pub mod Queues
+pub mod Reader
+pub mod Concentrator
+pub mod Survey
