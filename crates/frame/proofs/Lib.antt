@@ -2,3 +2,4 @@ pub mod Bursts
 pub mod Distance
 pub mod Parity
 pub mod Records
+pub mod Verdicts

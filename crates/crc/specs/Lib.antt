@@ -1,0 +1,4 @@
+pub mod Check
+pub mod Distance
+pub mod Division
+pub mod Vectors

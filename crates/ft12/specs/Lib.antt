@@ -1,0 +1,5 @@
+pub mod Symbols
+pub mod Frames
+pub mod Verdicts
+pub mod Cases
+pub mod Sharp
