@@ -28,7 +28,7 @@ slots-capacity n = cond (slots-fit n) n 0
 abbrev pub full : {A : Type 0} → ℕ → List A → Bool
 full k q = leb k (length q)
 
--- whether it holds none
+-- whether a queue that holds the records of `q` has none
 abbrev pub empty : {A : Type 0} → List A → Bool
 empty [] = true
 empty (x ∷ q) = false

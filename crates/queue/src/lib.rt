@@ -52,9 +52,9 @@ fn slot_after(at: usize, steps: usize, count: usize) -> usize
     if above < count { above } else { above - count }
 }
 
-// The queue: `len` records, the oldest in the slot `first` and each other in the slot after.
-// Over a wrong number of slots, or with numbers that do not lie within them, it counts as a queue
-// that can hold nothing, so that every call may be made of every value.
+// A queue of `len` records: the oldest in the slot `first`, each younger one in the slot after.
+// With a wrong number of slots, or numbers that do not lie within them, it can hold nothing.
+// So every call may be made of every value, and none has a condition.
 #[derive(Drop)]
 pub struct Queue<S> {
     slots: S,
@@ -63,7 +63,8 @@ pub struct Queue<S> {
 }
 
 impl<S: Slots> Queue<S> {
-    // An empty queue over the slots, which stay as they are.
+    // An empty queue over the slots, which stay as they are. Where `check_slots` refuses their
+    // number it can hold nothing.
     pub fn over(slots: S) -> Queue<S>
         ensures held { λ r. ⌜ contents items r ≡ [] ⌝ }
         ensures room { λ r. ⌜ capacity items r ≡ slots-capacity (length (items slots)) ⌝ }
@@ -77,6 +78,7 @@ impl<S: Slots> Queue<S> {
         }
     }
 
+    // True of every queue over a right number of slots; tested in place of a condition on calls.
     fn is_sound(&self) -> bool
         ensures { λ r. ⌜ r ≡ sound items (now (self .entry)) ⌝ }
     {
@@ -178,16 +180,6 @@ mod tests {
         check(queue.put(9).is_ok() && queue.is_full())?;
         check(queue.take() == Ok(8))?;
         check(queue.take() == Ok(9))?;
-        check(queue.take() == Err(Fault::of(Cause::QueueEmpty)))
-    }
-
-    #[test]
-    fn counts_as_none() -> Result<(), Fail> {
-        let wrong = [0u8; 257];
-        check(check_slots(wrong.len()) == Err(Fault::of(Cause::BadSlots)))?;
-        let mut queue = Queue::over(wrong);
-        check(queue.capacity() == 0)?;
-        check(queue.put(1) == Err(Fault::of(Cause::QueueFull)))?;
         check(queue.take() == Err(Fault::of(Cause::QueueEmpty)))
     }
 }

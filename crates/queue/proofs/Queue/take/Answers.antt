@@ -1,26 +1,20 @@
-use mathlib.Core.Path.{_≡_, refl, sym, ap, _∙_}
-use mathlib.Core.Bool.{cond}
+use mathlib.Core.Path.{refl, ap, _∙_}
 use native.Mathlib.Omega.{arith}
-use Prim.Native.Nat.{_-_}
 use Rattle.std.specs.declared.result.Result.the-variants.{Err}
-use Rattle.queue.specs.Fifo.{empty, take-answer, take-contents}
-use Rattle.queue.specs.Ring.{next-slot, contents, capacity, take-first}
-use Rattle.queue.proofs.Held.{none-oldest, some-oldest, has-record, after-take}
+use Rattle.queue.specs.Ring.{capacity}
+use Rattle.queue.proofs.Held.{some-oldest, has-record, refused-take, after-take}
 use Rattle.queue.proofs.Queue.take.Needs as need
 
 pub returns-in-rest : need.returns-in-rest
-unfolding take-first
 returns-in-rest g c =
-    let q = c .args .self .now in
-    let f = g .S·Slots .items in
-    let e = none-oldest (contents f q) (c .in-rest .ensures tt) in
+    let p = refused-take (g .S·Slots .items) (c .args .self .now) (c .in-rest .ensures tt) in
     record {
-      answer = ap Err (c .of .ensures) ∙ sym (ap take-answer e);
-      held = e ∙ sym (ap take-contents e);
-      room = refl {a = capacity f q};
-      store = refl {a = q .slots};
-      first = sym (ap (λ v. cond (empty v) (q .first) (next-slot (q .first) (capacity f q - 1))) e);
-      refused = refl {a = q};
+      answer = ap Err (c .of .ensures) ∙ p .0;
+      held = p .1;
+      room = refl {a = capacity (g .S·Slots .items) (c .args .self .now)};
+      store = refl {a = c .args .self .now .slots};
+      first = p .2;
+      refused = refl {a = c .args .self .now};
     }
 
 pub sub-last : need.sub-last
@@ -42,16 +36,5 @@ sub-self g c =
 
 pub returns : need.returns
 returns g c =
-    let q = c .args .self .now in
-    let f = g .S·Slots .items in
-    let o = some-oldest _ _ (c .in-Some .ensures tt) in
-    let n = c .next-slot-self .ensures ∙ ap (λ k. next-slot (q .first) (k - 1)) (c .count-last .ensures) in
-    let p = after-take f q _ (c .in-Some .x) (o .0) refl n refl in
-    record {
-      answer = o .1;
-      held = p .0;
-      room = p .1;
-      store = refl {a = q .slots};
-      first = p .2;
-      refused = tt;
-    }
+    let p = after-take (g .S·Slots .items) (c .args .self .now) _ (c .in-Some .x) (c .count-last .result) (c .in-Some .ensures tt) (c .count-last .ensures) refl (c .next-slot-self .ensures) refl in
+    record { answer = p .0; held = p .1; room = p .2; store = refl {a = c .args .self .now .slots}; first = p .3; refused = tt }

@@ -1,0 +1,8 @@
+// The worked cases of the link, as one theorem of the definitions that the formats and both ends cite.
+ghost use Rattle.cases.specs.Cases.{Cases};
+
+pub fn worked_cases()
+    ensures { λ _. ⌜ Cases ⌝ }
+{
+    ft12::worked_cases();
+}
