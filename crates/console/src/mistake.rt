@@ -1,0 +1,68 @@
+// Why a line of the console is no command.
+use crate::number::NumberFault;
+use std::alloc::AllocError;
+use std::alloc::Refused;
+use std::fmt;
+
+// The bytes of a word that a message shows.
+const SHOWN: usize = 40;
+
+#[derive(Clone, Copy)]
+pub enum Mistake<'a> {
+    UnknownCommand,
+    // a word too few, too many, or one that this command does not have
+    Usage(&'static str),
+    Number(NumberFault, &'a [u8]),
+    LongList,
+    OutOfMemory,
+}
+
+pub impl From<AllocError> for Mistake<'_> as MistakeFromAllocError {
+    fn from(_error: AllocError) -> Self {
+        Mistake::OutOfMemory
+    }
+}
+
+pub impl<T: Drop> From<Refused<T>> for Mistake<'_> as MistakeFromRefused {
+    fn from(_refused: Refused<T>) -> Self {
+        Mistake::OutOfMemory
+    }
+}
+
+// An answer is written to memory, so that only want of it can stop the writing.
+pub impl From<fmt::Error> for Mistake<'_> as MistakeFromFmtError {
+    fn from(_error: fmt::Error) -> Self {
+        Mistake::OutOfMemory
+    }
+}
+
+pub impl fmt::Display for Mistake<'_> as MistakeDisplay {
+    fn fmt<W: fmt::Write>(&self, f: &mut fmt::Formatter<W>) -> fmt::Result {
+        match self {
+            Mistake::UnknownCommand => f.write_str("unknown command"),
+            Mistake::Usage(command) => write!(f, "usage of {command}"),
+            Mistake::Number(NumberFault::NoNumber, word) => {
+                f.write_str("not a number: ")?;
+                write_word(f, word)
+            }
+            Mistake::Number(NumberFault::OutOfRange, word) => {
+                f.write_str("out of range: ")?;
+                write_word(f, word)
+            }
+            Mistake::LongList => f.write_str("more than 4096 octets or symbols"),
+            Mistake::OutOfMemory => f.write_str("out of memory"),
+        }
+    }
+}
+
+// A word as it can be shown on one line: its first bytes, with a dot for what is no ASCII letter, digit or sign.
+fn write_word<W: fmt::Write>(f: &mut fmt::Formatter<W>, word: &[u8]) -> fmt::Result {
+    for byte in word.iter().take(SHOWN) {
+        if byte.is_ascii_graphic() {
+            f.write_char(char::from(*byte))?;
+        } else {
+            f.write_char('.')?;
+        }
+    }
+    Ok(())
+}

@@ -1,0 +1,97 @@
+// The answers, as text: one line each.
+use console::Mistake;
+use console::MistakeDisplay;
+use fault::Fault;
+use fault::LayerDisplay;
+use frame::Content;
+use frame::UserOctets;
+use std::alloc::AllocError;
+use std::alloc::Global;
+use std::fmt;
+
+// More than any answer but an account has. It is kept free, so that no answer lacks memory once its call is made.
+const ROOM: usize = 2048;
+
+#[derive(Drop)]
+pub struct Answer {
+    text: String,
+}
+
+impl Answer {
+    pub fn new(heap: Global) -> Result<Answer, AllocError> {
+        Ok(Answer {
+            text: String::with_capacity(heap, ROOM)?,
+        })
+    }
+
+    pub fn as_str(&self) -> &str {
+        self.text.as_str()
+    }
+
+    pub fn clear(&mut self) {
+        self.text.clear();
+    }
+
+    pub fn say(&mut self, words: &str) -> fmt::Result {
+        write!(self.text, "{words}")
+    }
+
+    pub fn number(&mut self, number: usize) -> fmt::Result {
+        write!(self.text, "{number}")
+    }
+
+    // One octet, after a blank.
+    pub fn octet(&mut self, octet: u8) -> fmt::Result {
+        write!(self.text, " {octet:02X}")
+    }
+
+    // The first octets of a record, each after a blank.
+    pub fn octets(&mut self, user: &UserOctets, count: u8) -> fmt::Result {
+        for octet in user.iter().take(usize::from(count)) {
+            self.octet(*octet)?;
+        }
+        Ok(())
+    }
+
+    // A frame at the front of a buffer, with so many digits to a symbol.
+    pub fn frame(&mut self, buffer: &[u16], count: usize, digits: usize) -> fmt::Result {
+        write!(self.text, "frame {count}:")?;
+        for symbol in buffer.iter().take(count) {
+            write!(self.text, " {symbol:0digits$X}")?;
+        }
+        Ok(())
+    }
+
+    pub fn content(&mut self, content: Content, user: &UserOctets) -> fmt::Result {
+        match content {
+            Content::Single => self.say("single"),
+            Content::Fixed { control, address } => {
+                self.say("fixed")?;
+                self.octet(control.octet)?;
+                self.octet(address)
+            }
+            Content::Variable {
+                control,
+                address,
+                count,
+            } => {
+                self.say("variable")?;
+                self.octet(control.octet)?;
+                self.octet(address)?;
+                self.say(":")?;
+                self.octets(user, count)
+            }
+        }
+    }
+
+    pub fn error(&mut self, line: u64, mistake: Mistake<'_>) -> fmt::Result {
+        writeln!(self.text, "error {line}: {mistake}")
+    }
+
+    pub fn refused(&mut self, fault: Fault) -> fmt::Result {
+        let number = fault.number();
+        let layer = fault.layer();
+        let place = fault.place;
+        write!(self.text, "refused {number} {layer} {place}")
+    }
+}

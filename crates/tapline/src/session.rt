@@ -1,0 +1,145 @@
+// A run of the console: what earlier commands have set, and how each command is carried out.
+use crate::answer::Answer;
+use crate::frames::read_frame;
+use crate::frames::write_frame;
+use console::Command;
+use console::FormatName;
+use console::Mistake;
+use console::MistakeDisplay;
+use console::MistakeFromAllocError;
+use console::MistakeFromFmtError;
+use frame::Content;
+use frame::Control;
+use frame::Format;
+use frame::MOST_OCTETS;
+use frame::fill_record;
+use ft12::Ft12;
+use ft12::Ft12Format;
+use std::alloc::AllocError;
+use std::alloc::Global;
+use std::fmt;
+
+#[derive(Drop)]
+pub struct Session {
+    heap: Global,
+    format: FormatName,
+    // lent to every call that writes
+    buffer: Vec<u16>,
+    answer: Answer,
+}
+
+impl Session {
+    pub fn new(heap: Global) -> Result<Session, AllocError> {
+        Ok(Session {
+            heap,
+            format: FormatName::Ft12,
+            buffer: vec![in heap; 0; longest(FormatName::Ft12)]?,
+            answer: Answer::new(heap)?,
+        })
+    }
+
+    // The answer to the last line: a whole line, or nothing.
+    pub fn text(&self) -> &str {
+        self.answer.as_str()
+    }
+
+    // Carries out a line; whether it was a command, or empty.
+    pub fn answer(&mut self, number: u64, line: &[u8]) -> bool {
+        self.answer.clear();
+        match self.carry_out(line) {
+            Ok(()) => true,
+            Err(mistake) => self.fail(number, mistake),
+        }
+    }
+
+    // Answers a line that is no command.
+    pub fn fail(&mut self, number: u64, mistake: Mistake<'_>) -> bool {
+        self.answer.clear();
+        let _ = self.answer.error(number, mistake);
+        false
+    }
+
+    fn carry_out<'a>(&mut self, line: &'a [u8]) -> Result<(), Mistake<'a>> {
+        let Some(command) = Command::parse(self.heap, line)? else {
+            return Ok(());
+        };
+        match command {
+            Command::Format(format) => self.set_format(format)?,
+            Command::Buffer(length) => self.set_buffer(length)?,
+            Command::WriteSingle => self.write(Content::Single, &[])?,
+            Command::WriteFixed { control, address } => {
+                self.write(
+                    Content::Fixed {
+                        control: Control { octet: control },
+                        address,
+                    },
+                    &[],
+                )?
+            }
+            Command::WriteVariable {
+                control,
+                address,
+                octets,
+            } => {
+                let count = octets.len().min(MOST_OCTETS + 1) as u8;
+                let content = Content::Variable {
+                    control: Control { octet: control },
+                    address,
+                    count,
+                };
+                self.write(content, octets.as_slice())?
+            }
+            Command::Read(burst) => self.read(burst.as_slice())?,
+        }
+        self.answer.say("\n")?;
+        Ok(())
+    }
+}
+
+impl Session {
+    fn set_format<'a>(&mut self, format: FormatName) -> Result<(), Mistake<'a>> {
+        self.buffer = vec![in self.heap; 0; longest(format)]?;
+        self.format = format;
+        self.answer.say("format ")?;
+        self.answer
+            .say(
+                match format {
+                    FormatName::Ft12 => "ft12",
+                    FormatName::Ft3 => "ft3",
+                },
+            )?;
+        Ok(())
+    }
+
+    fn set_buffer<'a>(&mut self, length: u16) -> Result<(), Mistake<'a>> {
+        self.buffer = vec![in self.heap; 0; usize::from(length)]?;
+        self.answer.say("buffer ")?;
+        self.answer.number(usize::from(length))?;
+        Ok(())
+    }
+
+    fn write(&mut self, content: Content, octets: &[u8]) -> fmt::Result {
+        let mut user = [0; MOST_OCTETS];
+        fill_record(&mut user, octets);
+        let buffer = self.buffer.as_mut_slice();
+        match self.format {
+            FormatName::Ft12 => write_frame::<Ft12>(content, &user, buffer, &mut self.answer),
+            FormatName::Ft3 => write_frame::<Ft12>(content, &user, buffer, &mut self.answer),
+        }
+    }
+
+    fn read(&mut self, burst: &[u16]) -> fmt::Result {
+        match self.format {
+            FormatName::Ft12 => read_frame::<Ft12>(burst, &mut self.answer),
+            FormatName::Ft3 => read_frame::<Ft12>(burst, &mut self.answer),
+        }
+    }
+}
+
+// The symbols of a format's longest frame.
+fn longest(format: FormatName) -> usize {
+    match format {
+        FormatName::Ft12 => Ft12::LONGEST,
+        FormatName::Ft3 => Ft12::LONGEST,
+    }
+}
