@@ -8,6 +8,7 @@ use Rattle.cases.specs.Exchanges.{answer-of, heard, hears, linked5, reader5, s
 use Rattle.fault.specs.Causes.{fault}
 use Rattle.fault.specs.declared.Cause.the-variants.{LinkUnset}
 use Rattle.ft12.specs.Cases.{Cases as Ft12-cases}
+use Rattle.ft3.specs.Cases.{Cases as Ft3-cases}
 use Rattle.ft12.specs.Symbols.{symbol-of}
 use Rattle.rules.specs.Concentrator.{no-flags}
 use Rattle.rules.specs.Messages.{message-of}
@@ -64,9 +65,10 @@ pub record Silence : Type 0 where
       record { station = 5; service = Send; outcome = Doubtful; flags = no-flags; transmissions = 4 } ∷ []
   pub unset : send5 0x41 (silence (replicate 4 tt) (sent (send5 0x41 linked5) linked5)) ≡ Err (fault LinkUnset 0)
 
--- all of them
-pub record Cases : Type 0 where
+-- all of them; FT3's longest frame has so many symbols
+pub record Cases (longest : ℕ) : Type 0 where
   pub ft12 : Ft12-cases
+  pub ft3 : Ft3-cases longest
   pub repeated : Repeated-send
   pub full : Full-inbox
   pub last : Last-slot

@@ -8,6 +8,7 @@ pub returns : need.returns
 unfolding ones onesIn give-out hear-telegram repeat take-in link-after request verdict
 returns c = record {
   ft12 = c .worked-cases .ensures;
+  ft3 = c .worked-cases-2 .ensures;
   repeated = record { first = refl; second = refl; once = refl };
   full = record { busy = refl; again = refl; empty = refl };
   last = refl;
