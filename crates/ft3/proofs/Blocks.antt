@@ -7,7 +7,7 @@ use native.Mathlib.Omega.{arith}
 use lib.ListN.{length, take, drop}
 use Rattle.crc.specs.Check.{sealed}
 use Rattle.crc.proofs.Sealed.{length-sealed}
-use Rattle.ft3.specs.Frames.{block-count, blocks}
+use Rattle.ft3.specs.Frames.{all-blocks, block-count, blocks}
 use Rattle.std.proofs.shelf.Lists.{append-nil, drop-all, drop-at, length-append, length-drop, length-take, nil-from-length, take-all, take-at}
 use Rattle.std.proofs.shelf.Tests.{cases-lt}
 
@@ -32,10 +32,6 @@ count-none us h = omega arith
 
 pub count-more : (us : List ℕ) → 0 < length us → block-count (length us) ≡ suc (block-count (length (drop 16 us)))
 count-more us h = simp length-drop (omega arith)
-
--- all the blocks of some octets
-abbrev pub all-blocks : List ℕ → List ℕ
-all-blocks us = blocks (block-count (length us)) us
 
 pub blocks-none : (us : List ℕ) → length us ≡ 0 → all-blocks us ≡ []
 blocks-none us h = ap (λ k. blocks k us) (count-none us h)

@@ -10,12 +10,13 @@ use Rattle.crc.specs.Check.{sealed}
 use Rattle.fault.specs.Causes.{fault}
 use Rattle.fault.specs.declared.Cause.the-variants.{WrongLength, WrongStart}
 use Rattle.fault.specs.declared.Fault.{Fault}
+use Rattle.frame.proofs.Verdicts.{after-ok, must-ok}
 use Rattle.frame.specs.Contents.{Meaning, Valid, single, fixed, variable}
 use Rattle.frame.specs.Verdicts.{after, line-checked, must}
 use Rattle.ft3.proofs.Opening.{block-ok, blocks-exact, sealed-from}
-use Rattle.ft3.proofs.Verdicts.{after-ok, line-under, must-ok}
+use Rattle.ft3.proofs.Verdicts.{line-under}
 use Rattle.ft3.specs.Frames.{block-count, blocks, frame-of, headed}
-use Rattle.ft3.specs.Verdict.{block-checked, blocks-checked, fixed-verdict, headed-verdict, length-verdict, opened-blocks, partner-checked, single-verdict, sound, start-verdict, variable-verdict, verdict-of}
+use Rattle.ft3.specs.Verdicts.{block-checked, blocks-checked, fixed-verdict, headed-verdict, length-verdict, opened-blocks, partner-checked, is-sound, octets-verdict, single-verdict, variable-verdict, verdict-of}
 use Rattle.std.proofs.shelf.Lists.{append-nil, nil-from-length}
 use Rattle.std.proofs.shelf.Tests.{and-parts, eqb-true, leb-true}
 use Rattle.std.specs.declared.result.Result.{Result}
@@ -168,5 +169,5 @@ exact-start b start m false false u first t s e = let z : _≡_ {A = ℕ} 0 1 = 
 pub exact : (b : List ℕ) (m : Meaning) → verdict-of b ≡ Ok m → Valid m × (b ≡ frame-of m)
 exact b m e =
     let s : ℕ = getD b 0 0 in
-    let p : (line-checked sound 79 b ≡ Ok tt) × (start-verdict b s ≡ Ok m) = after-ok (line-checked sound 79 b) (start-verdict b s) m e in
+    let p : (line-checked is-sound 79 b ≡ Ok tt) × (octets-verdict b ≡ Ok m) = after-ok (line-checked is-sound 79 b) (octets-verdict b) m e in
     exact-start b s m (eqb s 0x12) (eqb s 0x05) (line-under b (p .0)) refl refl refl (p .1)

@@ -12,10 +12,10 @@ use Rattle.crc.proofs.Sealed.{apart-five, apart-within, length-sealed, under-se
 use Rattle.frame.specs.Contents.{Meaning, Valid, single, fixed, variable}
 use Rattle.frame.specs.Damage.{Damaged, distance}
 use Rattle.frame.specs.Laws.{GuardLaw}
-use Rattle.ft3.proofs.Blocks.{all-blocks, length-all-blocks}
+use Rattle.ft3.proofs.Blocks.{length-all-blocks}
 use Rattle.ft3.proofs.Laws.{length-variable}
-use Rattle.ft3.proofs.Writing.{length-headed}
-use Rattle.ft3.specs.Frames.{block-count, blocks, frame-of, headed}
+use Rattle.ft3.proofs.Buffers.{length-headed}
+use Rattle.ft3.specs.Frames.{all-blocks, block-count, blocks, frame-of, headed}
 use Rattle.std.proofs.shelf.Elements.{all-drop, all-take}
 use Rattle.std.proofs.shelf.Lists.{append-nil, length-append, length-drop, length-take, nil-from-length, take-all, take-append-drop}
 use Rattle.std.specs.shelf.Digits.{Under, numberAfter}

@@ -14,12 +14,12 @@ use Rattle.fault.specs.declared.Fault.{Fault}
 use Rattle.frame.specs.Contents.{Meaning, Valid, single, fixed, variable}
 use Rattle.frame.specs.Laws.{SizeLaw, VerdictLaw}
 use Rattle.frame.specs.Verdicts.{after, line-checked, must}
-use Rattle.ft3.proofs.Blocks.{all-blocks, length-all-blocks}
+use Rattle.ft3.proofs.Blocks.{length-all-blocks}
 use Rattle.ft3.proofs.Opening.{block-ok, blocks-exact, blocks-pass, sealed-from, sealed-good}
-use Rattle.ft3.proofs.Verdicts.{after-ok, line-passes, line-under, must-ok}
-use Rattle.ft3.proofs.Writing.{length-headed}
-use Rattle.ft3.specs.Frames.{block-count, blocks, frame-of, headed}
-use Rattle.ft3.specs.Verdict.{block-checked, blocks-checked, fixed-verdict, headed-verdict, is-sealed, length-verdict, opened-blocks, partner-checked, single-verdict, sound, start-verdict, variable-verdict, verdict-of}
+use Rattle.ft3.proofs.Verdicts.{line-passes}
+use Rattle.ft3.proofs.Buffers.{length-headed}
+use Rattle.ft3.specs.Frames.{all-blocks, block-count, blocks, frame-of, headed}
+use Rattle.ft3.specs.Verdicts.{block-checked, blocks-checked, fixed-verdict, headed-verdict, is-sealed, length-verdict, opened-blocks, partner-checked, octets-verdict, variable-verdict, verdict-of}
 use Rattle.std.proofs.shelf.Elements.{all-append, all-drop, all-take}
 use Rattle.std.proofs.shelf.Lists.{length-append, nil-from-length}
 use Rattle.std.proofs.shelf.Tests.{and-parts, eqb-true, leb-true}
@@ -81,11 +81,11 @@ variable-passes os n m long good is =
     let t : eqb (length os) (7 + n + 2 * block-count n) ≡ true = grind (arith, tells) in
     rw (t, good) (ap Ok is)
 
-start-accepts : (m : Meaning) → Valid m → start-verdict (frame-of m) (getD (frame-of m) 0 0) ≡ Ok m
+octets-accepted : (m : Meaning) → Valid m → octets-verdict (frame-of m) ≡ Ok m
 unfolding sealed
-start-accepts single v = refl
-start-accepts (fixed c a) v = headed-passes 0 c a []
-start-accepts (variable c a us) v =
+octets-accepted single v = refl
+octets-accepted (fixed c a) v = headed-passes 0 c a []
+octets-accepted (variable c a us) v =
     let n : ℕ = length us in
     let k : ℕ = block-count n in
     let os : List ℕ = frame-of (variable c a us) in
@@ -97,7 +97,7 @@ start-accepts (variable c a us) v =
 pub accepted : (m : Meaning) → Valid m → verdict-of (frame-of m) ≡ Ok m
 accepted m v =
     let s : (1 ≤ length (frame-of m)) × (length (frame-of m) ≤ 79) × Under 256 (frame-of m) = size m v in
-    ap (λ z. after z (start-verdict (frame-of m) (getD (frame-of m) 0 0))) (line-passes (frame-of m) (s .0) (s .1) (s .2)) ∙ start-accepts m v
+    ap (λ z. after z (octets-verdict (frame-of m))) (line-passes (frame-of m) (s .0) (s .1) (s .2)) ∙ octets-accepted m v
 
 -- ---- the longest frame
 

@@ -11,11 +11,11 @@ use Rattle.crc.proofs.Sealed.{check-lt, length-sealed}
 use Rattle.fault.specs.Causes.{fault}
 use Rattle.fault.specs.declared.Cause.the-variants.{WrongCheck}
 use Rattle.fault.specs.declared.Fault.{Fault}
+use Rattle.frame.proofs.Verdicts.{after-ok, must-ok}
 use Rattle.frame.specs.Verdicts.{after}
 use Rattle.ft3.proofs.Blocks.{cut, length-blocks}
-use Rattle.ft3.proofs.Verdicts.{after-ok, must-ok}
 use Rattle.ft3.specs.Frames.{blocks}
-use Rattle.ft3.specs.Verdict.{block-checked, blocks-checked, is-sealed, opened, opened-blocks}
+use Rattle.ft3.specs.Verdicts.{block-checked, blocks-checked, is-sealed, opened, opened-blocks}
 use Rattle.std.proofs.shelf.Elements.{all-append, all-drop, all-getD, all-take}
 use Rattle.std.proofs.shelf.Lists.{append-assoc, getD-append-add, getD-at, length-append, length-drop, length-take, nil-from-length, take-all, take-append-drop, take-at, take-more}
 use Rattle.std.proofs.shelf.Tests.{eq-eqb, eqb-true}

@@ -18,8 +18,12 @@ abbrev pub blocks : ℕ → List ℕ → List ℕ
 blocks zero us = []
 blocks (suc k) us = sealed (take 16 us) ++ blocks k (drop 16 us)
 
--- the frame of a content; the length octet is 0 in a fixed one
+-- user octets in as many blocks as they need
+abbrev pub all-blocks : List ℕ → List ℕ
+all-blocks us = blocks (block-count (length us)) us
+
+-- the frame of a content; the length octet is 0 in a fixed one, and counts control octet and address too in a variable one
 abbrev pub frame-of : Meaning → List ℕ
 frame-of single = 0x12 ∷ 0x3D ∷ []
 frame-of (fixed c a) = headed 0 c a
-frame-of (variable c a us) = headed (length us + 2) c a ++ blocks (block-count (length us)) us
+frame-of (variable c a us) = headed (length us + 2) c a ++ all-blocks us

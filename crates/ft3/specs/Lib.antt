@@ -1,3 +1,3 @@
 pub mod Cases
 pub mod Frames
-pub mod Verdict
+pub mod Verdicts

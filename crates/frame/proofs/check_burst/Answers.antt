@@ -1,4 +1,7 @@
 use mathlib.Core.Path.{sym, ap, _∙_}
+use Prim.Native.Nat.{_≤_}
+use native.Mathlib.Omega.{arith}
+use lib.ListN.{length}
 use Rattle.frame.proofs.Bursts.{line-is, symbols-broken, symbols-more}
 use Rattle.frame.proofs.check_burst.Needs as need
 use Rattle.frame.specs.Verdicts.{symbols-checked}
@@ -9,8 +12,9 @@ pub returns-then-not-is-sound : need.returns-then-not-is-sound
 returns-then-not-is-sound g c =
     let b = c .args .burst .now in
     let sound = g .A·Alphabet .sound in
+    let fits : length b ≤ c .args .longest = omega arith in
     ap Err (c .at .ensures) ∙
-    sym (line-is sound (c .args .longest) b (c .if-burst-lt1 .left) (c .if-burst-longest .left) ∙ sym (c .loop-i .inv) ∙ symbols-broken sound b (c .loop-i .i) (c .loop-i-test .taken) (sym (c .if-not-is-sound .ensures tt)))
+    sym (line-is sound (c .args .longest) b (c .if-burst-lt1 .left) fits ∙ sym (c .loop-i .inv) ∙ symbols-broken sound b (c .loop-i .i) (c .loop-i-test .taken) (sym (c .if-not-is-sound .ensures tt)))
 
 pub loop-i-again : need.loop-i-again
 loop-i-again g c =
@@ -20,4 +24,5 @@ pub returns : need.returns
 returns g c =
     let b = c .args .burst .now in
     let sound = g .A·Alphabet .sound in
-    sym (line-is sound (c .args .longest) b (c .if-burst-lt1 .left) (c .if-burst-longest .left) ∙ sym (c .loop-i .inv) ∙ ap (symbols-checked sound (c .loop-i .i)) (drop-all (c .loop-i .i) b (c .loop-i-test .left)))
+    let fits : length b ≤ c .args .longest = omega arith in
+    sym (line-is sound (c .args .longest) b (c .if-burst-lt1 .left) fits ∙ sym (c .loop-i .inv) ∙ ap (symbols-checked sound (c .loop-i .i)) (drop-all (c .loop-i .i) b (c .loop-i-test .left)))

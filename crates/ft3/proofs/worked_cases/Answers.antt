@@ -7,11 +7,11 @@ pub returns : need.returns
 unfolding sealed check bits remainder bring-down
 returns c =
     record {
-      single-frame = refl;
-      reset-frame = refl;
-      send-frame = refl;
-      most-octets = laws.most-octets;
-      too-long = laws.too-long;
+      single = refl;
+      reset = refl;
+      send = refl;
+      longest-frame = laws.most-octets;
+      over = laws.too-long;
       start-alone = refl;
       reset-spoilt = refl;
       send-cut = refl;
