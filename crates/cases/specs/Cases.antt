@@ -65,10 +65,10 @@ pub record Silence : Type 0 where
       record { station = 5; service = Send; outcome = Doubtful; flags = no-flags; transmissions = 4 } ∷ []
   pub unset : send5 0x41 (silence (replicate 4 tt) (sent (send5 0x41 linked5) linked5)) ≡ Err (fault LinkUnset 0)
 
--- all of them; FT3's longest frame has so many symbols
-pub record Cases (longest : ℕ) : Type 0 where
+-- all of them
+pub record Cases : Type 0 where
   pub ft12 : Ft12-cases
-  pub ft3 : Ft3-cases longest
+  pub ft3 : Ft3-cases 79
   pub repeated : Repeated-send
   pub full : Full-inbox
   pub last : Last-slot
