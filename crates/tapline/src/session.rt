@@ -13,6 +13,8 @@ use frame::Control;
 use frame::Format;
 use frame::MOST_OCTETS;
 use frame::fill_record;
+use ft3::Ft3;
+use ft3::Ft3Format;
 use ft12::Ft12;
 use ft12::Ft12Format;
 use std::alloc::AllocError;
@@ -124,14 +126,14 @@ impl Session {
         let buffer = self.buffer.as_mut_slice();
         match self.format {
             FormatName::Ft12 => write_frame::<Ft12>(content, &user, buffer, &mut self.answer),
-            FormatName::Ft3 => write_frame::<Ft12>(content, &user, buffer, &mut self.answer),
+            FormatName::Ft3 => write_frame::<Ft3>(content, &user, buffer, &mut self.answer),
         }
     }
 
     fn read(&mut self, burst: &[u16]) -> fmt::Result {
         match self.format {
             FormatName::Ft12 => read_frame::<Ft12>(burst, &mut self.answer),
-            FormatName::Ft3 => read_frame::<Ft12>(burst, &mut self.answer),
+            FormatName::Ft3 => read_frame::<Ft3>(burst, &mut self.answer),
         }
     }
 }
@@ -140,6 +142,6 @@ impl Session {
 fn longest(format: FormatName) -> usize {
     match format {
         FormatName::Ft12 => Ft12::LONGEST,
-        FormatName::Ft3 => Ft12::LONGEST,
+        FormatName::Ft3 => Ft3::LONGEST,
     }
 }
