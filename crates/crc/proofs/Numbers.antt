@@ -6,15 +6,14 @@ use Prim.Native.Nat.{ℕ, zero, suc, _+_, _*_, _/_, _%_, _^_, _<_, _≤_}
 use native.Mathlib.Nat.{add-zero, pow-suc}
 use native.Mathlib.Omega.{arith}
 use lib.Arith.{half-le}
-use lib.Bits.{bitXor, xor-zero-r, xor-block}
+use lib.Bits.{bitXor}
 use lib.Count.{ones, ones-step, ones-cat, onesIn}
-use lib.Dec.{eqb, lit<}
-use lib.ListN.{length, length-append}
-use Rattle.std.specs.shelf.Digits.{numberAfter, number, Under}
-use Rattle.std.proofs.shelf.Digits.{numberAfter-append}
+use lib.Dec.{eqb}
+use lib.ListN.{length}
+use Rattle.std.specs.shelf.Digits.{numberAfter, Under}
 use Rattle.crc.specs.Check.{digit, octet-bits, bits}
 use Rattle.crc.proofs.Below.{below, agree}
-use Rattle.crc.proofs.Linear.{xorb, sums, digit-lt, push-xor}
+use Rattle.crc.proofs.Linear.{sums, digit-lt, push-xor}
 
 -- the number of a polynomial, where n is that of the coefficients before it
 abbrev pub value : ℕ → List Bool → ℕ

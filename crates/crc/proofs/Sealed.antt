@@ -17,7 +17,7 @@ use Rattle.crc.specs.Check.{bring-down, remainder, octet-bits, bits, check, se
 use Rattle.crc.specs.Distance.{Apart, Least, differing}
 use Rattle.crc.proofs.Linear.{xor-cancel, sums, length-sums, zeros, shift, remainder-lt, remainder-++, remainder-xor, shift-xor, shift-octet, octet}
 use Rattle.crc.proofs.Multiples.{no-multiple}
-use Rattle.crc.proofs.Numbers.{value, weight, length-bits, bits-++, value-bits, value-xor, ones-value, ones-none, ones-by, same-octets}
+use Rattle.crc.proofs.Numbers.{weight, length-bits, bits-++, value-bits, value-xor, ones-value, ones-none, ones-by, same-octets}
 
 -- ---- a block as it is sent
 

@@ -1,7 +1,7 @@
 -- The guard law of FT3, from the distance of the check's code. Assumes nothing.
 use mathlib.Core.List.{List, [], _∷_, _++_}
 use mathlib.Core.Path.{_≡_, refl, sym, ap, ap₂, subst, _∙_}
-use Prim.Native.Nat.{ℕ, zero, suc, _+_, _-_, _*_, _≤_, _<_}
+use Prim.Native.Nat.{ℕ, zero, suc, _+_, _*_, _≤_, _<_}
 use native.Mathlib.Omega.{arith}
 use lib.Bits.{bitXor, xor-block, xor-lt}
 use lib.Count.{ones, ones-cat, onesIn}
@@ -10,14 +10,14 @@ use Rattle.crc.specs.Check.{sealed}
 use Rattle.crc.specs.Distance.{Apart, differing}
 use Rattle.crc.proofs.Sealed.{apart-five, apart-within, length-sealed, under-sealed}
 use Rattle.frame.specs.Contents.{Meaning, Valid, single, fixed, variable}
-use Rattle.frame.specs.Damage.{Damaged, distance}
+use Rattle.frame.specs.Damage.{distance}
 use Rattle.frame.specs.Laws.{GuardLaw}
 use Rattle.ft3.proofs.Blocks.{length-all-blocks}
 use Rattle.ft3.proofs.Laws.{length-variable}
 use Rattle.ft3.proofs.Buffers.{length-headed}
 use Rattle.ft3.specs.Frames.{all-blocks, block-count, blocks, frame-of, headed}
 use Rattle.std.proofs.shelf.Elements.{all-drop, all-take}
-use Rattle.std.proofs.shelf.Lists.{append-nil, length-append, length-drop, length-take, nil-from-length, take-all, take-append-drop}
+use Rattle.std.proofs.shelf.Lists.{length-append, length-drop, length-take, nil-from-length, take-all, take-append-drop}
 use Rattle.std.specs.shelf.Digits.{Under, numberAfter}
 
 -- ---- the distance of two bursts of octets is that of their long numbers

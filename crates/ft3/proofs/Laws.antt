@@ -1,30 +1,27 @@
 -- The size and the verdict of FT3. Assumes nothing.
-use mathlib.Core.Bool.{Bool, true, false, cond, _&&_}
+use mathlib.Core.Bool.{true, false, _&&_}
 use mathlib.Core.List.{List, [], _∷_, _++_}
-use mathlib.Core.Path.{_≡_, refl, sym, ap, ap₂, subst, _∙_}
-use Prim.Native.Nat.{ℕ, zero, suc, _+_, _-_, _*_, _/_, _%_, _≤_, _<_}
+use mathlib.Core.Path.{_≡_, refl, ap, _∙_}
+use Prim.Native.Nat.{ℕ, zero, suc, _+_, _-_, _*_, _≤_, _<_}
 use native.Mathlib.Omega.{arith}
 use lib.Dec.{eqb, leb}
 use lib.ListN.{length, take, drop, getD}
-use Rattle.crc.specs.Check.{check, sealed}
-use Rattle.crc.proofs.Sealed.{length-sealed, under-sealed}
+use Rattle.crc.specs.Check.{sealed}
+use Rattle.crc.proofs.Sealed.{under-sealed}
 use Rattle.fault.specs.Causes.{fault}
-use Rattle.fault.specs.declared.Cause.the-variants.{LongBurst, WrongLength, WrongStart}
-use Rattle.fault.specs.declared.Fault.{Fault}
+use Rattle.fault.specs.declared.Cause.the-variants.{LongBurst}
 use Rattle.frame.specs.Contents.{Meaning, Valid, single, fixed, variable}
-use Rattle.frame.specs.Laws.{SizeLaw, VerdictLaw}
-use Rattle.frame.specs.Verdicts.{after, line-checked, must}
+use Rattle.frame.specs.Laws.{SizeLaw}
+use Rattle.frame.specs.Verdicts.{after}
 use Rattle.ft3.proofs.Blocks.{length-all-blocks}
-use Rattle.ft3.proofs.Opening.{block-ok, blocks-exact, blocks-pass, sealed-from, sealed-good}
+use Rattle.ft3.proofs.Opening.{blocks-pass, sealed-good}
 use Rattle.ft3.proofs.Verdicts.{line-passes}
 use Rattle.ft3.proofs.Buffers.{length-headed}
 use Rattle.ft3.specs.Frames.{all-blocks, block-count, blocks, frame-of, headed}
-use Rattle.ft3.specs.Verdicts.{block-checked, blocks-checked, fixed-verdict, headed-verdict, is-sealed, length-verdict, opened-blocks, partner-checked, octets-verdict, variable-verdict, verdict-of}
+use Rattle.ft3.specs.Verdicts.{blocks-checked, headed-verdict, length-verdict, opened-blocks, octets-verdict, variable-verdict, verdict-of}
 use Rattle.std.proofs.shelf.Elements.{all-append, all-drop, all-take}
-use Rattle.std.proofs.shelf.Lists.{length-append, nil-from-length}
-use Rattle.std.proofs.shelf.Tests.{and-parts, eqb-true, leb-true}
+use Rattle.std.proofs.shelf.Lists.{length-append}
 use Rattle.std.proofs.shelf.Ways.{tells}
-use Rattle.std.specs.declared.result.Result.{Result}
 use Rattle.std.specs.declared.result.Result.the-variants.{Ok, Err}
 use Rattle.std.specs.shelf.Digits.{Under}
 

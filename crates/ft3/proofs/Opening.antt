@@ -1,16 +1,14 @@
 -- Sealing and opening blocks: one undoes the other. Assumes nothing.
 use mathlib.Core.Bool.{true}
 use mathlib.Core.List.{List, [], _∷_, _++_}
-use mathlib.Core.Path.{_≡_, refl, sym, ap, ap₂, subst, _∙_}
+use mathlib.Core.Path.{_≡_, refl, sym, ap, ap₂, _∙_}
 use Prim.Native.Nat.{ℕ, zero, suc, _+_, _-_, _*_, _/_, _%_, min, _≤_, _<_}
 use native.Mathlib.Omega.{arith}
-use lib.Dec.{eqb}
 use lib.ListN.{length, take, drop, getD}
 use Rattle.crc.specs.Check.{check, sealed}
-use Rattle.crc.proofs.Sealed.{check-lt, length-sealed}
+use Rattle.crc.proofs.Sealed.{length-sealed}
 use Rattle.fault.specs.Causes.{fault}
 use Rattle.fault.specs.declared.Cause.the-variants.{WrongCheck}
-use Rattle.fault.specs.declared.Fault.{Fault}
 use Rattle.frame.proofs.Verdicts.{after-ok, must-ok}
 use Rattle.frame.specs.Verdicts.{after}
 use Rattle.ft3.proofs.Blocks.{cut, length-blocks}
@@ -19,8 +17,7 @@ use Rattle.ft3.specs.Verdicts.{block-checked, blocks-checked, is-sealed, opene
 use Rattle.std.proofs.shelf.Elements.{all-append, all-drop, all-getD, all-take}
 use Rattle.std.proofs.shelf.Lists.{append-assoc, getD-append-add, getD-at, length-append, length-drop, length-take, nil-from-length, take-all, take-append-drop, take-at, take-more}
 use Rattle.std.proofs.shelf.Tests.{eq-eqb, eqb-true}
-use Rattle.std.specs.declared.result.Result.{Result}
-use Rattle.std.specs.declared.result.Result.the-variants.{Ok, Err}
+use Rattle.std.specs.declared.result.Result.the-variants.{Ok}
 use Rattle.std.specs.shelf.Digits.{Under}
 
 -- ---- one block

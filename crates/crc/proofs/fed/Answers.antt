@@ -1,6 +1,6 @@
-use Prim.Native.Nat.{_/_, _<_}
+use Prim.Native.Nat.{_/_}
 use native.Mathlib.Omega.{arith}
-use lib.Bits.{bitXor, xor-lt}
+use lib.Bits.{xor-lt}
 use Rattle.crc.specs.Check.{remainder, bring-down}
 use Rattle.crc.proofs.Register.{entries, by-table}
 use Rattle.crc.proofs.fed.Needs as need
