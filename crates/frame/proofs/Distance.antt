@@ -1,7 +1,7 @@
--- Bursts at distance 0 are the same.
+-- The distance of two bursts: of their parts, and where it is 0.
 use mathlib.Core.Path.{_≡_, refl, sym, ap, ap₂, _∙_}
-use mathlib.Core.List.{List, [], _∷_}
-use Prim.Native.Nat.{ℕ, zero, suc, _+_, _/_, _%_, _≤_, _<_}
+use mathlib.Core.List.{List, [], _∷_, _++_}
+use Prim.Native.Nat.{ℕ, zero, suc, _+_, _/_, _%_, _≤_}
 use native.Mathlib.Omega.{arith}
 use lib.Arith.{half-le}
 use lib.Bits.{bitXor, xor-assoc, xor-self, xor-zero-r, xor-zero-l}
@@ -29,3 +29,10 @@ same-at-zero [] (y ∷ ys) l d = absurd (omega arith)
 same-at-zero (x ∷ xs) [] l d = absurd (omega arith)
 same-at-zero (x ∷ xs) (y ∷ ys) l d =
     ap₂ _∷_ (same-symbol x y (omega arith)) (same-at-zero xs ys (omega arith) (omega arith))
+
+pub distance-append :
+    (xs ys us vs : List ℕ) → length xs ≡ length ys → distance (xs ++ us) (ys ++ vs) ≡ distance xs ys + distance us vs
+distance-append [] [] us vs l = omega arith
+distance-append [] (y ∷ ys) us vs l = absurd (omega arith)
+distance-append (x ∷ xs) [] us vs l = absurd (omega arith)
+distance-append (x ∷ xs) (y ∷ ys) us vs l = omega (arith, distance-append xs ys us vs (omega arith))

@@ -8,6 +8,7 @@ use lib.ListN.{length}
 use Rattle.fault.specs.Causes.{fault}
 use Rattle.fault.specs.declared.Cause.the-variants.{EmptyBurst, LongBurst}
 use Rattle.fault.specs.declared.Fault.{Fault}
+use Rattle.frame.specs.Contents.{Meaning}
 use Rattle.frame.specs.Verdicts.{after, line-checked, must, symbols-checked}
 use Rattle.std.specs.declared.result.Result.{Result}
 use Rattle.std.specs.declared.result.Result.the-variants.{Ok, Err}
@@ -30,3 +31,7 @@ line-ok sound longest b e =
     let s = symbols-checked sound 0 b in
     let some = must-ok (leb 1 (length b)) (fault EmptyBurst 0) (must (leb (length b) longest) (fault LongBurst 0) s) tt e in
     must-ok (leb (length b) longest) (fault LongBurst 0) s tt (some .1) .1
+
+-- one content is accepted at a time
+pub same-accepted : {m o : Meaning} → _≡_ {A = Result Meaning Fault} (Ok m) (Ok o) → m ≡ o
+same-accepted e = cc

@@ -1,22 +1,20 @@
 -- Buffers and records of octets, as the loops and the parts of a frame fill them.
-use mathlib.Core.Bool.{true, false, _&&_}
 use mathlib.Core.List.{List, [], _∷_, _++_, map}
 use mathlib.Core.Path.{_≡_, sym, ap, ap₂, _∙_}
 use Prim.Native.Nat.{ℕ, _+_, _%_, _≤_, _<_}
 use native.Mathlib.Nat.{zero-add}
 use native.Mathlib.Omega.{arith}
-use lib.Dec.{ltb, leb}
 use lib.ListN.{length, take, drop, getD, set}
+use Rattle.frame.proofs.Buffers.{answered, proper-variable}
 use Rattle.frame.specs.Contents.{meaning, variable}
 use Rattle.frame.specs.Writing.{buffer-written, write-answer}
 use Rattle.frame.specs.declared.Content.{Content}
 use Rattle.frame.specs.declared.Content.the-variants.{Variable}
 use Rattle.frame.specs.declared.control.Control.{Control}
 use Rattle.ft12.specs.Frames.{check-of, encoded-at, frame-of, octets-of}
-use Rattle.ft12.specs.Symbols.{octet-of, symbol-of}
-use Rattle.std.proofs.shelf.Lists.{append-assoc, drop-at, drop-drop, drop-more, length-append, length-map, length-take-le, map-append, map-more, set-at, take-at, take-more-set}
+use Rattle.ft12.specs.Symbols.{symbol-of}
+use Rattle.std.proofs.shelf.Lists.{append-assoc, drop-at, drop-drop, drop-more, length-append, length-map, length-take-le, map-append, map-more, set-at, take-at}
 use Rattle.std.proofs.shelf.Sums.{sumBy-append, sumBy-more}
-use Rattle.std.proofs.shelf.Ways.{tells}
 use Rattle.std.specs.declared.result.Result.the-variants.{Ok}
 
 pub check-more :
@@ -26,16 +24,6 @@ pub check-more :
     r ≡ (t + getD os i 0) % 256 →
     r ≡ check-of (take (i + 1) os)
 check-more os i t r h e q = let m = sumBy-more (λ x. x) os i 0 h in omega (arith, m, e, q)
-
-pub decode-more :
-    (os bs : List ℕ) (i r : ℕ) →
-    i < length bs →
-    i < length os →
-    r ≡ octet-of (getD bs i 0) →
-    take i os ≡ map octet-of (take i bs) →
-    take (i + 1) (set os i r) ≡ map octet-of (take (i + 1) bs)
-decode-more os bs i r hb ho is e =
-    take-more-set os i r ho ∙ ap₂ (λ z x. z ++ (x ∷ [])) e is ∙ sym (map-more octet-of bs i 0 hb)
 
 pub encode-more :
     (os e l : List ℕ) (place i r : ℕ) →
@@ -125,10 +113,9 @@ pub variable-written :
     after ≡ encoded-at 0 (octets-of (variable (c .octet) a (take n us))) b →
     (Ok r ≡ write-answer 72 (frame-of (meaning k us)) k b) × (after ≡ buffer-written 72 (frame-of (meaning k us)) k b)
 variable-written k c a n r us b after is some few sixty-four room count e =
-    let big : ltb (length b) 72 ≡ false = grind (arith, tells) in
-    let fine : (leb 1 n && leb n 64) ≡ true = grind (arith, tells) in
     let os = octets-of (variable (c .octet) a (take n us)) in
-    let fr = frame-of (variable (c .octet) a (take n us)) in
-    let long : length fr ≡ r = simp (length-map, length-append) (omega arith) in
-    let same : length os ≡ length fr = sym (length-map os symbol-of) in
-    (rw (is, big, fine) (ap Ok (sym long)), e ∙ encoded-first os b ∙ rw (is, big, fine) (ap (λ j. fr ++ drop j b) same))
+    let fr : frame-of (meaning k us) ≡ map symbol-of os = ap (λ z. frame-of (meaning z us)) is in
+    let eight : length os ≡ length (take n us) + 8 = simp length-append (omega arith) in
+    let long : r ≡ length os = count ∙ sym eight in
+    answered 72 k (frame-of (meaning k us)) b after r room (proper-variable k c a n is some few) (long ∙ sym (ap length fr ∙ length-map os symbol-of))
+    (e ∙ encoded-first os b ∙ ap₂ (λ z j. z ++ drop j b) (sym fr) (sym long))

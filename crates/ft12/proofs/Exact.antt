@@ -9,7 +9,8 @@ use lib.ListN.{length, take, drop, getD}
 use Rattle.fault.specs.Causes.{fault}
 use Rattle.fault.specs.declared.Cause.the-variants.{BrokenSymbol, LongBurst, WrongStart, WrongLength, WrongCheck, WrongEnd}
 use Rattle.fault.specs.declared.Fault.{Fault}
-use Rattle.frame.proofs.Verdicts.{after-ok, line-ok, must-ok}
+use Rattle.frame.proofs.Bursts.{last-two}
+use Rattle.frame.proofs.Verdicts.{after-ok, line-ok, must-ok, same-accepted}
 use Rattle.frame.specs.Contents.{Meaning, single, fixed, variable, Valid}
 use Rattle.frame.specs.Verdicts.{after, line-checked, must, symbols-checked}
 use Rattle.ft12.proofs.Symbols.{symbol-octet}
@@ -17,14 +18,11 @@ use Rattle.ft12.specs.Frames.{check-of, frame-of, octets-of}
 use Rattle.ft12.specs.Symbols.{is-sound, octet-of, symbol-of}
 use Rattle.ft12.specs.Verdicts.{close-checked, counted-verdict, fixed-verdict, octets-verdict, single-verdict, variable-verdict, verdict-of}
 use Rattle.std.proofs.shelf.Elements.{all-from-getD, all-take}
-use Rattle.std.proofs.shelf.Lists.{append-assoc, getD-drop, length-drop, length-take, take-all, take-more}
+use Rattle.std.proofs.shelf.Lists.{getD-drop, length-drop, length-take}
 use Rattle.std.proofs.shelf.Ways.{tells}
 use Rattle.std.specs.declared.result.Result.{Result}
 use Rattle.std.specs.declared.result.Result.the-variants.{Ok, Err}
 use Rattle.std.specs.shelf.Lists.{All}
-
-ok-same : {m o : Meaning} → _≡_ {A = Result Meaning Fault} (Ok m) (Ok o) → m ≡ o
-ok-same e = cc
 
 -- the check octet and the end are right
 close-ok :
@@ -59,11 +57,6 @@ four-of (p ∷ q ∷ []) h = absurd (omega arith)
 four-of (p ∷ q ∷ r ∷ []) h = absurd (omega arith)
 four-of (p ∷ q ∷ r ∷ s ∷ t) h = refl
 
--- what is covered, and the two octets after it
-tail-of : (t : List ℕ) (l : ℕ) → length t ≡ l + 2 → t ≡ take l t ++ (getD t l 0 ∷ getD t (l + 1) 0 ∷ [])
-tail-of t l h =
-    sym (take-all (l + 1 + 1) t (omega arith)) ∙ take-more t (l + 1) 0 (omega arith) ∙ ap (λ z. z ++ (getD t (l + 1) 0 ∷ [])) (take-more t l 0 (omega arith)) ∙ append-assoc (take l t) (getD t l 0 ∷ []) (getD t (l + 1) 0 ∷ [])
-
 -- what is covered: control octet, address and user octets
 covered-of : (b : List ℕ) (l n : ℕ) → l ≡ suc (suc n) → 6 ≤ length b → take l (drop 4 b) ≡ getD b 4 0 ∷ getD b 5 0 ∷ take n (drop 6 b)
 covered-of [] l n h k = absurd (omega arith)
@@ -94,7 +87,7 @@ exact-single : (os : List ℕ) (m : Meaning) → getD os 0 0 ≡ 0xE5 → single
 exact-single os m at e =
     let p = must-ok (eqb (length os) 1) (fault WrongLength (length os)) (Ok single) m e in
     let one : length os ≡ 1 = grind (arith, tells, p .0) in
-    subst (Exact os) (ok-same (p .1)) (tt, one-of os one ∙ ap (λ x. x ∷ []) at)
+    subst (Exact os) (same-accepted (p .1)) (tt, one-of os one ∙ ap (λ x. x ∷ []) at)
 
 exact-fixed : (os : List ℕ) (m : Meaning) → Each os → getD os 0 0 ≡ 0x10 → fixed-verdict os ≡ Ok m → Exact os m
 exact-fixed os m o at e =
@@ -106,7 +99,7 @@ exact-fixed os m o at e =
     let five : length os ≡ 5 = grind (arith, tells, p .0) in
     let whole = five-of os five in
     let covered : take 2 (drop 1 os) ≡ c ∷ a ∷ [] = ap (λ z. take 2 (drop 1 z)) whole in
-    subst (Exact os) (ok-same (q .1)) (
+    subst (Exact os) (same-accepted (q .1)) (
       (o 1, o 2),
       whole ∙
           ap (λ x. x ∷ c ∷ a ∷ getD os 3 0 ∷ getD os 4 0 ∷ []) at ∙
@@ -151,9 +144,9 @@ exact-counted os l m o at0 at1 e =
     let s-is : getD (drop 4 os) l 0 ≡ check-of (c ∷ a ∷ us) = getD-drop 4 os l 0 ∙ ap (λ j. getD os j 0) l4 ∙ check in
     let end-is : getD (drop 4 os) (l + 1) 0 ≡ 0x16 = getD-drop 4 os (l + 1) 0 ∙ ap (λ j. getD os j 0) l5 ∙ k .1 in
     let rest : drop 4 os ≡ c ∷ a ∷ us ++ (check-of (c ∷ a ∷ us) ∷ 0x16 ∷ []) =
-    tail-of (drop 4 os) l (simp length-drop (omega (arith, long))) ∙ ap (λ z. z ++ (getD (drop 4 os) l 0 ∷ getD (drop 4 os) (l + 1) 0 ∷ [])) covered ∙ ap₂ (λ x y. c ∷ a ∷ us ++ (x ∷ y ∷ [])) s-is end-is
+    last-two (drop 4 os) l (simp length-drop (omega (arith, long))) ∙ ap (λ z. z ++ (getD (drop 4 os) l 0 ∷ getD (drop 4 os) (l + 1) 0 ∷ [])) covered ∙ ap₂ (λ x y. c ∷ a ∷ us ++ (x ∷ y ∷ [])) s-is end-is
     in
-    subst (Exact os) (ok-same (p4 .1)) (
+    subst (Exact os) (same-accepted (p4 .1)) (
       (o 4, o 5, omega (arith, l-is, some), omega (arith, l-is, few), octets),
       four-of os (omega (arith, long)) ∙
           ap₂ (λ x y. x ∷ y ∷ getD os 2 0 ∷ getD os 3 0 ∷ drop 4 os) at0 (at1 ∙ l-is) ∙

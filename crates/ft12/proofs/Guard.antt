@@ -7,7 +7,7 @@ use native.Mathlib.Omega.{arith}
 use lib.Bits.{bitXor}
 use lib.Count.{ones, onesIn}
 use lib.ListN.{length, take, drop, getD}
-use Rattle.frame.proofs.Distance.{same-symbol}
+use Rattle.frame.proofs.Distance.{distance-append, same-symbol}
 use Rattle.frame.proofs.Parity.{xor-parity}
 use Rattle.frame.specs.Contents.{Meaning, single, fixed, variable, Valid}
 use Rattle.frame.specs.Damage.{distance}
@@ -17,7 +17,7 @@ use Rattle.ft12.proofs.Symbols.{octet-symbol, symbol-odd}
 use Rattle.ft12.specs.Frames.{check-of, frame-of, octets-of}
 use Rattle.ft12.specs.Sharp.{Sharp}
 use Rattle.ft12.specs.Symbols.{octet-of, symbol-of}
-use Rattle.std.proofs.shelf.Lists.{take-all, take-map}
+use Rattle.std.proofs.shelf.Lists.{length-map, map-append, take-all, take-map}
 use Rattle.std.proofs.shelf.Sums.{sumBy-cons}
 use Rattle.std.proofs.shelf.Tests.{cases-eq}
 use Rattle.std.specs.shelf.Lists.{sum}
@@ -75,10 +75,9 @@ sum-tells (x ∷ xs) (y ∷ ys) l hx hy d e =
 
 apart-append :
     (xs ys us vs : List ℕ) → length xs ≡ length ys → apart (xs ++ us) (ys ++ vs) ≡ apart xs ys + apart us vs
-apart-append [] [] us vs l = omega arith
-apart-append [] (y ∷ ys) us vs l = absurd (omega arith)
-apart-append (x ∷ xs) [] us vs l = absurd (omega arith)
-apart-append (x ∷ xs) (y ∷ ys) us vs l = let r = apart-append xs ys us vs (omega arith) in omega (arith, r)
+apart-append xs ys us vs l =
+    ap₂ distance (map-append symbol-of xs us) (map-append symbol-of ys vs) ∙
+    distance-append (map symbol-of xs) (map symbol-of ys) (map symbol-of us) (map symbol-of vs) (length-map xs symbol-of ∙ l ∙ sym (length-map ys symbol-of))
 
 -- what is covered, its check octet and the end
 abbrev sealed : List ℕ → List ℕ

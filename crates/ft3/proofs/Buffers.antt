@@ -1,15 +1,15 @@
 -- The writer's loop: what is written, and what the blocks that are left will add. Assumes nothing.
-use mathlib.Core.Bool.{true, false, _&&_}
+use mathlib.Core.Bool.{true}
 use mathlib.Core.List.{List, [], _∷_, _++_}
 use mathlib.Core.Path.{_≡_, refl, sym, ap, ap₂, _∙_}
 use Prim.Native.Nat.{ℕ, suc, _+_, _-_, _/_, _%_, min, _≤_, _<_}
 use native.Mathlib.Numerals.{add-one}
 use native.Mathlib.Omega.{arith}
 use borrow.Rule.Slice.PartMut.{putMid}
-use lib.Dec.{leb, ltb}
 use lib.ListN.{length, take, drop, getD, set}
 use Rattle.crc.specs.Check.{check, sealed}
 use Rattle.crc.proofs.Sealed.{length-sealed}
+use Rattle.frame.proofs.Buffers.{answered, proper-variable}
 use Rattle.frame.specs.Contents.{meaning}
 use Rattle.frame.specs.Writing.{buffer-written, proper, write-answer}
 use Rattle.frame.specs.declared.Content.{Content}
@@ -19,7 +19,6 @@ use Rattle.ft3.proofs.Blocks.{blocks-more, blocks-none, length-all-blocks}
 use Rattle.ft3.specs.Frames.{all-blocks, frame-of, headed}
 use Rattle.std.proofs.shelf.Lists.{append-assoc, append-nil, drop-at, drop-drop, drop-more, length-append, length-drop, length-take-le, set-at, take-all, take-append-drop, take-at, take-more}
 use Rattle.std.proofs.shelf.Parts.{drop-putMid, take-putMid}
-use Rattle.std.proofs.shelf.Ways.{tells}
 use Rattle.std.specs.declared.result.Result.the-variants.{Ok}
 
 -- ---- one block
@@ -139,18 +138,6 @@ written-all us e b rest end w h =
 pub length-headed : (l c a : ℕ) → length (headed l c a) ≡ 7
 length-headed l c a = omega (arith, length-sealed (l ∷ c ∷ a ∷ []))
 
--- a frame at the front of the buffer is what a writer owes
-pub answered :
-    (k : Content) (frame b after : List ℕ) (r : ℕ) →
-    79 ≤ length b →
-    proper k ≡ true →
-    r ≡ length frame →
-    after ≡ frame ++ drop r b →
-    (Ok r ≡ write-answer 79 frame k b) × (after ≡ buffer-written 79 frame k b)
-answered k frame b after r long fine is e =
-    let big : ltb (length b) 79 ≡ false = grind (arith, tells) in
-    (rw (big, fine) (ap Ok is), e ∙ rw (big, fine) (ap (λ n. frame ++ drop n b) is))
-
 pub fixed-answered :
     (k : Content) (c : Control) (a r : ℕ) (user b after : List ℕ) →
     k ≡ Fixed c a →
@@ -160,7 +147,7 @@ pub fixed-answered :
     (Ok r ≡ write-answer 79 (frame-of (meaning k user)) k b) × (after ≡ buffer-written 79 (frame-of (meaning k user)) k b)
 fixed-answered k c a r user b after is long seven e =
     let frame : frame-of (meaning k user) ≡ headed 0 (c .octet) a = ap (λ z. frame-of (meaning z user)) is in
-    answered k (frame-of (meaning k user)) b after r long (ap proper is) (seven ∙ sym (ap length frame ∙ length-headed 0 (c .octet) a))
+    answered 79 k (frame-of (meaning k user)) b after r long (ap proper is) (seven ∙ sym (ap length frame ∙ length-headed 0 (c .octet) a))
     (e ∙ ap₂ (λ z n. z ++ drop n b) (sym frame) (sym seven))
 
 pub variable-answered :
@@ -182,12 +169,9 @@ variable-answered k c a n r user b b₁ b₂ is some few sixty-four long e₁ co
     let frame : frame-of (meaning k user) ≡ head ++ all-blocks us =
     ap (λ z. frame-of (meaning z user)) is ∙ ap (λ m. headed (m + 2) (c .octet) a ++ all-blocks us) all
     in
-    let fine : proper k ≡ true = ap proper is ∙ within n some few in
+    let fine : proper k ≡ true = proper-variable k c a n is some few in
     let rest : drop r b₁ ≡ drop r b =
     ap₂ drop count e₁ ∙ sym (drop-drop (length (all-blocks us)) 7 (head ++ drop 7 b)) ∙ ap (drop (length (all-blocks us))) (drop-at head (drop 7 b) 7 seven) ∙ drop-drop (length (all-blocks us)) 7 b ∙ ap (λ m. drop m b) (sym count)
     in
-    answered k (frame-of (meaning k user)) b b₂ r long fine (count ∙ sym (ap length frame ∙ length-append head (all-blocks us) ∙ ap (λ m. m + length (all-blocks us)) seven))
+    answered 79 k (frame-of (meaning k user)) b b₂ r long fine (count ∙ sym (ap length frame ∙ length-append head (all-blocks us) ∙ ap (λ m. m + length (all-blocks us)) seven))
     (e₂ ∙ ap₂ (λ x y. x ++ (all-blocks us ++ y)) (ap (take 7) e₁ ∙ take-at head (drop 7 b) 7 seven) rest ∙ sym (append-assoc head (all-blocks us) (drop r b)) ∙ ap (λ z. z ++ drop r b) (sym frame))
-  where
-    within : (m : ℕ) → 1 ≤ m → m ≤ 64 → (leb 1 m && leb m 64) ≡ true
-    within m h l = grind (arith, tells)

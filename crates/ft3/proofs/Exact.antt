@@ -10,7 +10,7 @@ use Rattle.crc.specs.Check.{sealed}
 use Rattle.fault.specs.Causes.{fault}
 use Rattle.fault.specs.declared.Cause.the-variants.{WrongLength, WrongStart}
 use Rattle.fault.specs.declared.Fault.{Fault}
-use Rattle.frame.proofs.Verdicts.{after-ok, must-ok}
+use Rattle.frame.proofs.Verdicts.{after-ok, must-ok, same-accepted}
 use Rattle.frame.specs.Contents.{Meaning, Valid, single, fixed, variable}
 use Rattle.frame.specs.Verdicts.{after, line-checked, must}
 use Rattle.ft3.proofs.Opening.{block-ok, blocks-exact, sealed-from}
@@ -25,9 +25,6 @@ use Rattle.std.specs.shelf.Digits.{Under}
 
 abbrev Exact : List ℕ → Meaning → Type 0
 Exact b m = Valid m × (b ≡ frame-of m)
-
-ok-same : {m o : Meaning} → _≡_ {A = Result Meaning Fault} (Ok m) (Ok o) → m ≡ o
-ok-same e = cc
 
 partner-is : (partner : ℕ) (b : List ℕ) → partner-checked partner b ≡ Ok tt → getD b 1 0 ≡ partner
 partner-is partner b e =
@@ -47,7 +44,7 @@ exact-single b m first e =
     let rest : Result Meaning Fault = must (eqb (length b) 2) (fault WrongLength (length b)) (Ok single) in
     let p : (partner-checked 0x3D b ≡ Ok tt) × (rest ≡ Ok m) = after-ok (partner-checked 0x3D b) rest m e in
     let q : (eqb (length b) 2 ≡ true) × (Ok single ≡ Ok m) = must-ok (eqb (length b) 2) (fault WrongLength (length b)) (Ok single) m (p .1) in
-    subst (Exact b) (ok-same (q .1)) (tt, two-of b (eqb-true (length b) 2 (q .0)) ∙ ap₂ (λ x y. x ∷ y ∷ []) first (partner-is 0x3D b (p .0)))
+    subst (Exact b) (same-accepted (q .1)) (tt, two-of b (eqb-true (length b) 2 (q .0)) ∙ ap₂ (λ x y. x ∷ y ∷ []) first (partner-is 0x3D b (p .0)))
 
 -- ---- fixed and variable
 
@@ -69,7 +66,7 @@ exact-fixed b rest l c a m h none e =
     in
     let seven : length b ≡ 7 = eqb-true (length b) 7 (p .0) in
     let empty : rest ≡ [] = nil-from-length rest (omega (arith, h .long)) in
-    subst (Exact b) (ap₂ fixed (sym (h .control)) (sym (h .address)) ∙ ok-same (p .1)) (
+    subst (Exact b) (ap₂ fixed (sym (h .control)) (sym (h .address)) ∙ same-accepted (p .1)) (
       (h .control-lt, h .address-lt),
       h .whole ∙ ap₂ (λ k z. headed k c a ++ z) none empty ∙ append-nil (headed 0 c a),
     )
@@ -93,7 +90,7 @@ exact-variable b rest l c a n m h is some few e =
     let all : (drop 7 b ≡ blocks k us) × (length us ≡ n) × Under 256 us =
     blocks-exact k n 7 (drop 7 b) (omega arith) (omega arith) (ap length (h .left) ∙ omega (arith, h .long)) (subst (Under 256) (sym (h .left)) (h .under)) (q .0)
     in
-    subst (Exact b) (ap₂ (λ x y. variable x y us) (sym (h .control)) (sym (h .address)) ∙ ok-same (q .1)) (
+    subst (Exact b) (ap₂ (λ x y. variable x y us) (sym (h .control)) (sym (h .address)) ∙ same-accepted (q .1)) (
       (h .control-lt, h .address-lt, omega (arith, all .1), omega (arith, all .1), all .2),
       h .whole ∙ ap₂ (λ j z. headed j c a ++ z) (is ∙ ap (λ j. j + 2) (sym (all .1))) (sym (h .left) ∙ all .0 ∙ ap (λ j. blocks (block-count j) us) (sym (all .1))),
     )

@@ -9,6 +9,7 @@ use lib.ListN.{length, take, drop, getD}
 use Rattle.crc.specs.Check.{sealed}
 use Rattle.crc.specs.Distance.{Apart, differing}
 use Rattle.crc.proofs.Sealed.{apart-five, apart-within, length-sealed, under-sealed}
+use Rattle.frame.proofs.Distance.{distance-append}
 use Rattle.frame.specs.Contents.{Meaning, Valid, single, fixed, variable}
 use Rattle.frame.specs.Damage.{distance}
 use Rattle.frame.specs.Laws.{GuardLaw}
@@ -43,12 +44,6 @@ distance-after m n (x ∷ a) (y ∷ b) ha hb l =
 differing-is : (a b : List ℕ) → Under 256 a → Under 256 b → length a ≡ length b → differing a b ≡ distance a b
 unfolding ones onesIn
 differing-is a b ha hb l = omega (arith, distance-after 0 0 a b ha hb l)
-
-distance-append : (a b c d : List ℕ) → length a ≡ length b → distance (a ++ c) (b ++ d) ≡ distance a b + distance c d
-distance-append [] [] c d l = omega arith
-distance-append [] (y ∷ b) c d l = absurd (omega arith)
-distance-append (x ∷ a) [] c d l = absurd (omega arith)
-distance-append (x ∷ a) (y ∷ b) c d l = omega (arith, distance-append a b c d (omega arith))
 
 -- a front of two lists joined
 take-join : (a c : List ℕ) (n : ℕ) → take (length a + n) (a ++ c) ≡ a ++ take n c

@@ -9,13 +9,14 @@ use Rattle.crc.specs.Check.{check, sealed}
 use Rattle.crc.proofs.Sealed.{length-sealed}
 use Rattle.fault.specs.Causes.{fault}
 use Rattle.fault.specs.declared.Cause.the-variants.{WrongCheck}
+use Rattle.frame.proofs.Bursts.{last-two}
 use Rattle.frame.proofs.Verdicts.{after-ok, must-ok}
 use Rattle.frame.specs.Verdicts.{after}
 use Rattle.ft3.proofs.Blocks.{cut, length-blocks}
 use Rattle.ft3.specs.Frames.{blocks}
 use Rattle.ft3.specs.Verdicts.{block-checked, blocks-checked, is-sealed, opened, opened-blocks}
 use Rattle.std.proofs.shelf.Elements.{all-append, all-drop, all-getD, all-take}
-use Rattle.std.proofs.shelf.Lists.{append-assoc, getD-append-add, getD-at, length-append, length-drop, length-take, nil-from-length, take-all, take-append-drop, take-at, take-more}
+use Rattle.std.proofs.shelf.Lists.{getD-append-add, getD-at, length-append, length-drop, length-take, nil-from-length, take-append-drop, take-at}
 use Rattle.std.proofs.shelf.Tests.{eq-eqb, eqb-true}
 use Rattle.std.specs.declared.result.Result.the-variants.{Ok}
 use Rattle.std.specs.shelf.Digits.{Under}
@@ -35,14 +36,6 @@ sealed-good x =
     let low : getD (sealed x) (length (sealed x) - 1) 0 ≡ r % 256 = ap (λ n. getD (sealed x) n 0) last ∙ getD-append-add x (r / 256 ∷ r % 256 ∷ []) 1 0 in
     eq-eqb (getD (sealed x) (length (sealed x) - 2) 0 * 256 + getD (sealed x) (length (sealed x) - 1) 0) (check (opened (sealed x)))
     (omega (arith, high, low, ap check (opened-sealed x)))
-
--- a list and its last two
-last-two : (t : List ℕ) (l : ℕ) → length t ≡ l + 2 → t ≡ take l t ++ (getD t l 0 ∷ getD t (l + 1) 0 ∷ [])
-last-two t l h =
-    sym (take-all (l + 1 + 1) t (omega arith)) ∙
-    take-more t (l + 1) 0 (omega arith) ∙
-    ap (λ z. z ++ (getD t (l + 1) 0 ∷ [])) (take-more t l 0 (omega arith)) ∙
-    append-assoc (take l t) (getD t l 0 ∷ []) (getD t (l + 1) 0 ∷ [])
 
 pub sealed-from : (y : List ℕ) → 2 ≤ length y → Under 256 y → is-sealed y ≡ true → y ≡ sealed (opened y)
 unfolding sealed

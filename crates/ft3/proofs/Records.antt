@@ -1,12 +1,12 @@
 -- The reader's loop: what is opened, and what the blocks that are left will add. Assumes nothing.
 use mathlib.Core.Bool.{true}
-use mathlib.Core.List.{List, [], _∷_, _++_, map}
+use mathlib.Core.List.{List, _++_}
 use mathlib.Core.Path.{_≡_, refl, sym, ap, ap₂, _∙_}
 use Prim.Native.Nat.{ℕ, suc, _+_, _-_, _*_, _/_, _%_, min, _≤_, _<_}
 use native.Mathlib.Omega.{arith}
 use borrow.Rule.Slice.PartMut.{putMid}
 use lib.Dec.{eqb}
-use lib.ListN.{length, take, drop, getD, set}
+use lib.ListN.{length, take, drop, getD}
 use Rattle.fault.specs.declared.Fault.{Fault}
 use Rattle.frame.specs.Contents.{content-read, filled-record, padded, variable}
 use Rattle.frame.specs.declared.Content.the-variants.{Variable}
@@ -14,23 +14,11 @@ use Rattle.frame.specs.Verdicts.{after}
 use Rattle.ft3.proofs.Blocks.{cut}
 use Rattle.ft3.specs.Frames.{block-count}
 use Rattle.ft3.specs.Verdicts.{block-checked, blocks-checked, opened, opened-blocks, variable-verdict}
-use Rattle.std.proofs.shelf.Lists.{append-assoc, append-nil, length-append, length-drop, length-take-le, map-more, take-more-set}
+use Rattle.std.proofs.shelf.Lists.{append-assoc, append-nil, length-append, length-drop, length-take-le}
 use Rattle.std.proofs.shelf.Parts.{take-putMid}
 use Rattle.std.proofs.shelf.Ways.{tells}
 use Rattle.std.specs.declared.result.Result.{Result}
 use Rattle.std.specs.declared.result.Result.the-variants.{Ok, Err}
-
--- ---- octets from symbols
-
-pub octets-more :
-    (os b : List ℕ) (i x : ℕ) →
-    i < length b →
-    i < length os →
-    x ≡ getD b i 0 % 256 →
-    take i os ≡ map (λ s. s % 256) (take i b) →
-    take (i + 1) (set os i x) ≡ map (λ s. s % 256) (take (i + 1) b)
-octets-more os b i x hb ho is e =
-    take-more-set os i x ho ∙ ap₂ (λ z y. z ++ y ∷ []) e is ∙ sym (map-more (λ s. s % 256) b i 0 hb)
 
 -- ---- sealed blocks
 

@@ -2,14 +2,14 @@ use mathlib.Core.List.{map}
 use mathlib.Core.Path.{_≡_, sym, ap, _∙_}
 use native.Mathlib.Omega.{arith}
 use lib.ListN.{length, take}
-use Rattle.ft12.proofs.Buffers.{decode-more}
+use Rattle.frame.proofs.Bursts.{decode-more}
 use Rattle.ft12.proofs.reading.decode_burst.Needs as need
 use Rattle.ft12.specs.Symbols.{octet-of}
 use Rattle.std.proofs.shelf.Lists.{length-set, take-all}
 
 pub loop-i-again : need.loop-i-again
 loop-i-again c = (
-  decode-more (c .loop-i .octets) (c .args .burst .now) (c .loop-i .i) (c .decode .result) (c .loop-i-test .taken) (omega arith) (c .decode .ensures) (c .loop-i .inv .0),
+  decode-more octet-of (c .loop-i .octets) (c .args .burst .now) (c .loop-i .i) (c .decode .result) (c .loop-i-test .taken) (omega arith) (c .decode .ensures) (c .loop-i .inv .0),
   length-set (c .loop-i .octets) (c .loop-i .i) _ ∙ c .loop-i .inv .1,
 )
 

@@ -3,14 +3,14 @@ use mathlib.Core.List.{map}
 use Prim.Native.Nat.{_%_}
 use native.Mathlib.Omega.{arith}
 use lib.ListN.{length, take}
-use Rattle.ft3.proofs.Records.{octets-more}
+use Rattle.frame.proofs.Bursts.{decode-more}
 use Rattle.ft3.proofs.reading.decode_burst.Needs as need
 use Rattle.std.proofs.shelf.Lists.{length-set, take-all}
 
 pub loop-i-again : need.loop-i-again
 loop-i-again c = (
   length-set (c .loop-i .octets) (c .loop-i .i) _ ∙ c .loop-i .inv .0,
-  octets-more (c .loop-i .octets) (c .args .burst .now) (c .loop-i .i) _ (c .loop-i-test .taken) (omega arith) refl (c .loop-i .inv .1),
+  decode-more (λ s. s % 256) (c .loop-i .octets) (c .args .burst .now) (c .loop-i .i) _ (c .loop-i-test .taken) (omega arith) refl (c .loop-i .inv .1),
 )
 
 pub returns : need.returns
