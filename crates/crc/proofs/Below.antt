@@ -1,4 +1,4 @@
--- A rule of every number below a bound, by one test that computes, one number after the other. Assumes nothing.
+-- A rule of every number below a bound, by one test that computes, one number after the other.
 use mathlib.Core.Path.{_≡_, ap, _∙_}
 use mathlib.Core.Bool.{Bool, true, _&&_}
 use mathlib.Core.Logic.{inl, inr}

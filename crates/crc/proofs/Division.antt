@@ -1,4 +1,4 @@
--- The long division finds the remainder, and there is no other. Assumes nothing.
+-- The long division finds the remainder, and there is no other.
 use mathlib.Core.Path.{_≡_, refl, sym, ap, ap₂, subst, _∙_}
 use mathlib.Core.List.{List, [], _∷_, _++_}
 use mathlib.Core.Bool.{Bool, true, false}

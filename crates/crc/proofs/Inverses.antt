@@ -1,4 +1,4 @@
--- The powers of 1/x modulo the generator, and tests that compute on them: 1 is no sum of one or of three of 1/x, .., 1/x^143. Assumes nothing.
+-- The powers of 1/x modulo the generator, and tests that compute on them: 1 is no sum of one or of three of 1/x, .., 1/x^143.
 use mathlib.Core.Path.{_≡_, refl}
 use mathlib.Core.Bool.{Bool, true, false, not, _&&_}
 use Prim.Native.Nat.{ℕ, zero, suc, _*_, _/_, _%_}

@@ -1,4 +1,4 @@
--- The long division respects exclusive or: the remainder of a sum is the sum of the remainders. Assumes nothing.
+-- The long division respects exclusive or: the remainder of a sum is the sum of the remainders.
 use mathlib.Core.Path.{_≡_, refl, sym, ap, _∙_}
 use mathlib.Core.List.{List, [], _∷_, _++_}
 use mathlib.Core.Bool.{Bool, true, false, not}

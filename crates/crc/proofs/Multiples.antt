@@ -1,6 +1,6 @@
 -- A polynomial with 1 to 5 coefficients, of degree below 144, is no multiple of the generator.
 -- Divide it by its highest power: then 1 and at most four of 1/x, .., 1/x^143 add up to 0. Each of these has an odd count of ones, so there are
--- one or three of them, which the tests on the powers rule out. Assumes nothing.
+-- one or three of them, which the tests on the powers rule out.
 use mathlib.Core.Path.{_≡_, refl, sym, ap, ap₂, _∙_}
 use mathlib.Core.List.{List, [], _∷_}
 use mathlib.Core.Bool.{Bool, true, false}

@@ -1,4 +1,4 @@
--- Bits and octets as one long number: the same for both, and in how many bits two such numbers differ. Assumes nothing.
+-- Bits and octets as one long number: the same for both, and in how many bits two such numbers differ.
 use mathlib.Core.Path.{_≡_, refl, sym, ap, ap₂, _∙_}
 use mathlib.Core.List.{List, [], _∷_, _++_, append-assoc, map}
 use mathlib.Core.Bool.{Bool, true, false}

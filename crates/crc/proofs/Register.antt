@@ -1,4 +1,4 @@
--- The register of the code, octet by octet, against what is left of the block shifted up. Assumes nothing.
+-- The register of the code, octet by octet, against what is left of the block shifted up.
 use mathlib.Core.Path.{_≡_, refl, sym, ap, ap₂, _∙_}
 use mathlib.Core.List.{List, [], _∷_}
 use Prim.Native.Nat.{ℕ, zero, suc, _+_, _*_, _/_, _%_, _^_, _<_}

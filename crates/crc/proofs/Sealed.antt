@@ -1,4 +1,4 @@
--- Blocks as they are sent lie six bits apart, and no further. Assumes nothing.
+-- Blocks as they are sent lie six bits apart, and no further.
 use mathlib.Core.Path.{_≡_, refl, sym, ap, ap₂, _∙_}
 use mathlib.Core.List.{List, [], _∷_, _++_}
 use mathlib.Core.Bool.{Bool, true, _&&_}

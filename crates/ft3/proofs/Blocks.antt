@@ -1,4 +1,4 @@
--- Lists cut into blocks: how many there are, how long they are, and the first of them. Assumes nothing.
+-- Lists cut into blocks: how many there are, how long they are, and the first of them.
 use mathlib.Core.List.{List, [], _++_}
 use mathlib.Core.Logic.{inl, inr}
 use mathlib.Core.Path.{_≡_, sym, ap, ap₂, _∙_}

@@ -1,4 +1,4 @@
--- The writer's loop: what is written, and what the blocks that are left will add. Assumes nothing.
+-- The writer's loop: what is written, and what the blocks that are left will add.
 use mathlib.Core.Bool.{true}
 use mathlib.Core.List.{List, [], _∷_, _++_}
 use mathlib.Core.Path.{_≡_, refl, sym, ap, ap₂, _∙_}

@@ -1,4 +1,4 @@
--- Only frames are accepted. Assumes nothing.
+-- Only frames are accepted.
 use mathlib.Core.Bool.{Bool, true, false, cond, _&&_}
 use mathlib.Core.List.{List, [], _∷_, _++_}
 use mathlib.Core.Path.{_≡_, refl, sym, ap, ap₂, subst, _∙_}

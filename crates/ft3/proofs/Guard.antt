@@ -1,4 +1,4 @@
--- The guard law of FT3, from the distance of the check's code. Assumes nothing.
+-- The guard law of FT3, from the distance of the check's code.
 use mathlib.Core.List.{List, [], _∷_, _++_}
 use mathlib.Core.Path.{_≡_, refl, sym, ap, ap₂, subst, _∙_}
 use Prim.Native.Nat.{ℕ, zero, suc, _+_, _*_, _≤_, _<_}

@@ -1,4 +1,4 @@
--- The size and the verdict of FT3. Assumes nothing.
+-- The size and the verdict of FT3.
 use mathlib.Core.Bool.{true, false, _&&_}
 use mathlib.Core.List.{List, [], _∷_, _++_}
 use mathlib.Core.Path.{_≡_, refl, ap, _∙_}

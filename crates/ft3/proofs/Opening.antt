@@ -1,4 +1,4 @@
--- Sealing and opening blocks: one undoes the other. Assumes nothing.
+-- Sealing and opening blocks: one undoes the other.
 use mathlib.Core.Bool.{true}
 use mathlib.Core.List.{List, [], _∷_, _++_}
 use mathlib.Core.Path.{_≡_, refl, sym, ap, ap₂, _∙_}
