@@ -157,7 +157,7 @@ request-as (Err f) a k = Err f
 request-as (Ok v) a k = opened (k .exchange) (ready v (link-at (k .links) a)) (has-room v k) a v k
 
 -- Reset, status, send and poll: 20 if the buffer is under the longest frame, then 14, 15, 16, 17, 18, 19.
-unfoldable pub request : Bool → ℕ → Asking → Concentrator → Result Sent Fault
+abbrev pub request : Bool → ℕ → Asking → Concentrator → Result Sent Fault
 request short a q k =
     must (not short) (fault ShortBuffer 0) (
     must (within 1 32 a) (fault BadStation 0) (

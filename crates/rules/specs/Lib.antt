@@ -7,3 +7,5 @@ pub mod Queues
 pub mod Reader
 pub mod Concentrator
 pub mod Survey
+pub mod Exchanges
+pub mod Room

@@ -2,10 +2,10 @@ use mathlib.Core.Path.{refl}
 use Rattle.cases.proofs.worked_cases.Needs as need
 use lib.Count.{ones, onesIn}
 use Rattle.rules.specs.Reader.{give-out, hear-telegram, repeat, take-in}
-use Rattle.rules.specs.Concentrator.{link-after, request, verdict}
+use Rattle.rules.specs.Concentrator.{link-after, verdict}
 
 pub returns : need.returns
-unfolding ones onesIn give-out hear-telegram repeat take-in link-after request verdict
+unfolding ones onesIn give-out hear-telegram repeat take-in link-after verdict
 returns c = record {
   ft12 = c .worked-cases .ensures;
   ft3 = c .worked-cases-2 .ensures;

@@ -1,0 +1,13 @@
+pub mod Stations
+pub mod Pair
+pub mod Answers
+pub mod Hearing
+pub mod Bursts
+pub mod Calls
+pub mod Valid
+pub mod State
+pub mod Invariant
+pub mod Room
+pub mod Tied
+pub mod Barred
+pub mod TwoEnds

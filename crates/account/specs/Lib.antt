@@ -1,0 +1,4 @@
+pub mod Ledger
+pub mod Books
+pub mod Line
+pub mod Account

@@ -1,0 +1,2 @@
+pub mod Declined
+pub mod Surveys
