@@ -7,7 +7,7 @@ use Rattle.fault.specs.Causes.{fault}
 use Rattle.fault.specs.declared.Cause.the-variants.{ShortBuffer, BadStation}
 use Rattle.fault.specs.declared.Fault.{Fault}
 use Rattle.frame.specs.Verdicts.{must}
-use Rattle.rules.specs.Concentrator.{Concentrator, Sent, for-send, request, request-as, send-of}
+use Rattle.rules.specs.Concentrator.{Concentrator, for-send, request, request-as, send-of}
 use Rattle.rules.specs.Messages.{message-answer, within}
 use Rattle.rules.specs.declared.records.Request.{Request}
 use Rattle.std.specs.declared.result.Result.{Result}
@@ -16,15 +16,15 @@ use Rattle.std.specs.declared.result.Result.the-variants.{Ok, Err}
 abbrev passed : Result (Unit {0}) Fault
 passed = Ok tt
 
--- what passes two checks is refused as a request is
-declined : (long within-it : Bool) (f g h : Fault) (v : Result Request Fault) (a : ℕ) (k : Concentrator) →
+-- what passes two checks is refused as its request is
+declined : (long known : Bool) (f g h : Fault) (v : Result Request Fault) (a : ℕ) (k : Concentrator) →
     passed ≡ must long g (passed) →
-    passed ≡ must within-it h (passed) →
+    passed ≡ must known h (passed) →
     Err f ≡ v →
-    Err f ≡ must long g (must within-it h (request-as v a k))
+    Err f ≡ must long g (must known h (request-as v a k))
 declined true true f g h v a k p q e = ap (λ r. request-as r a k) e
 declined true false f g h v a k p q e = cc
-declined false within-it f g h v a k p q e = cc
+declined false known f g h v a k p q e = cc
 
 pub send-declined : (short : Bool) (a : ℕ) (octets : List ℕ) (k : Concentrator) (f : Fault) →
     passed ≡ must (not short) (fault ShortBuffer 0) (passed) →

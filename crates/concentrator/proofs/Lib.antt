@@ -1,2 +1,1 @@
 pub mod Declined
-pub mod Surveys

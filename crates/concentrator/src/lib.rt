@@ -1,9 +1,5 @@
 // The concentrator, the primary station of the link: it asks its readers, one exchange at a time, and keeps what they
 // answer and how each exchange ended.
-mod answers;
-mod links;
-mod requests;
-
 ghost use Rattle.concentrator.specs.View.{view};
 ghost use Rattle.fault.specs.Causes.{fault};
 ghost use Rattle.fault.specs.declared.Cause.the-variants.{ShortBuffer, BadStation};
@@ -23,22 +19,22 @@ ghost use lib.Dec.{ltb};
 ghost use lib.ListN.{length};
 ghost use mathlib.Core.Bool.{not};
 ghost use mathlib.Core.Path.{_≡_};
-use answers::NO_FLAGS;
-use answers::flags;
-use answers::link_after;
-use answers::verdict;
 use fault::Cause;
 use fault::Fault;
 use frame::Format;
 use links::LinkTable;
+use links::NO_FLAGS;
 use links::STATIONS;
+use links::flags;
+use links::is_ready;
+use links::link_after;
+use links::link_asked;
+use links::transmission;
+use links::verdict;
 use queue::Queue;
 use queue::SliceSlots;
 use queue::Slots;
 use queue::check_slots;
-use requests::is_ready;
-use requests::link_asked;
-use requests::transmission;
 use rules::link::Link;
 use rules::message::Message;
 use rules::records::Arrival;
@@ -314,10 +310,7 @@ impl<P: Slots<Item = Arrival>, Q: Slots<Item = Report>, F: Format> Concentrator<
         ensures answer { λ r. ⌜ r ≡ survey-answer (view (P·Slots .items) (Q·Slots .items) (now (self .entry)) .links) (length (now (buffer .entry))) ⌝ }
         ensures written { λ r. ⌜ Cases r (λ count. Surveyed (view (P·Slots .items) (Q·Slots .items) (now (self .entry)) .links) (now (buffer .entry)) (now (buffer .exit)) count) (λ _. now (buffer .exit) ≡ now (buffer .entry)) ⌝ }
     {
-        if buffer.len() < usize::from(STATIONS) {
-            return Err(Fault::of(Cause::ShortBuffer));
-        }
-        Ok(self.links.survey(buffer))
+        self.links.survey(buffer)
     }
 }
 

@@ -1,10 +1,12 @@
 // The answers, as text: one line each.
-use console::Mistake;
-use console::MistakeDisplay;
+use crate::mistake::Mistake;
+use crate::mistake::MistakeDisplay;
 use fault::Fault;
 use fault::LayerDisplay;
 use frame::Content;
 use frame::UserOctets;
+use rules::message::Message;
+use rules::records::Mark;
 use std::alloc::AllocError;
 use std::alloc::Global;
 use std::fmt;
@@ -32,25 +34,26 @@ impl Answer {
         self.text.clear();
     }
 
-    pub fn say(&mut self, words: &str) -> fmt::Result {
+    pub fn say<D: fmt::Display + Drop>(&mut self, words: D) -> fmt::Result {
         write!(self.text, "{words}")
     }
 
-    pub fn number(&mut self, number: usize) -> fmt::Result {
-        write!(self.text, "{number}")
-    }
-
-    // One octet, after a blank.
-    pub fn octet(&mut self, octet: u8) -> fmt::Result {
-        write!(self.text, " {octet:02X}")
-    }
-
-    // The first octets of a record, each after a blank.
-    pub fn octets(&mut self, user: &UserOctets, count: u8) -> fmt::Result {
-        for octet in user.iter().take(usize::from(count)) {
-            self.octet(*octet)?;
+    // Octets, each after a blank.
+    pub fn octets(&mut self, octets: &[u8]) -> fmt::Result {
+        for octet in octets {
+            write!(self.text, " {octet:02X}")?;
         }
         Ok(())
+    }
+
+    // What became of a message that was out, if it was marked.
+    pub fn mark(&mut self, mark: Option<Mark>, message: &Message) -> fmt::Result {
+        match mark {
+            Some(Mark::Settled) => self.say(" settled:")?,
+            Some(Mark::Doubtful) => self.say(" doubtful:")?,
+            None => return Ok(()),
+        }
+        self.octets(message.octets())
     }
 
     // A frame at the front of a buffer, with so many digits to a symbol.
@@ -67,8 +70,7 @@ impl Answer {
             Content::Single => self.say("single"),
             Content::Fixed { control, address } => {
                 self.say("fixed")?;
-                self.octet(control.octet)?;
-                self.octet(address)
+                self.octets(&[control.octet, address])
             }
             Content::Variable {
                 control,
@@ -76,10 +78,10 @@ impl Answer {
                 count,
             } => {
                 self.say("variable")?;
-                self.octet(control.octet)?;
-                self.octet(address)?;
+                self.octets(&[control.octet, address])?;
                 self.say(":")?;
-                self.octets(user, count)
+                let count = usize::from(count).min(user.len());
+                self.octets(&user[0..count])
             }
         }
     }

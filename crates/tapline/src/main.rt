@@ -1,14 +1,18 @@
 // The console of the link: reads commands, one to a line, from standard input or from the file that is its one
 // argument, carries each out on the library, and answers on standard output.
 mod answer;
+mod arguments;
+mod bench;
+mod command;
 mod frames;
 mod input;
+mod mistake;
 mod session;
 
-use console::MistakeFromAllocError;
 use input::Reading;
 use input::read_line;
 use input::without_end;
+use mistake::MistakeFromAllocError;
 use session::Session;
 use std::alloc::AllocError;
 use std::env;

@@ -1,13 +1,16 @@
 // A run of the console: what earlier commands have set, and how each command is carried out.
 use crate::answer::Answer;
+use crate::bench::BenchReader;
+use crate::bench::check_reader;
+use crate::command::Command;
+use crate::command::FormatName;
+use crate::command::ReaderCall;
+use crate::command::ReaderPlan;
 use crate::frames::read_frame;
 use crate::frames::write_frame;
-use console::Command;
-use console::FormatName;
-use console::Mistake;
-use console::MistakeDisplay;
-use console::MistakeFromAllocError;
-use console::MistakeFromFmtError;
+use crate::mistake::Mistake;
+use crate::mistake::MistakeFromAllocError;
+use crate::mistake::MistakeFromFmtError;
 use frame::Content;
 use frame::Control;
 use frame::Format;
@@ -28,6 +31,7 @@ pub struct Session {
     // lent to every call that writes
     buffer: Vec<u16>,
     answer: Answer,
+    reader: Option<BenchReader>,
 }
 
 impl Session {
@@ -37,6 +41,7 @@ impl Session {
             format: FormatName::Ft12,
             buffer: vec![in heap; 0; longest(FormatName::Ft12)]?,
             answer: Answer::new(heap)?,
+            reader: None,
         })
     }
 
@@ -92,6 +97,8 @@ impl Session {
                 self.write(content, octets.as_slice())?
             }
             Command::Read(burst) => self.read(burst.as_slice())?,
+            Command::BenchReader(plan) => self.put_reader(plan)?,
+            Command::Reader(call) => self.call_reader(call)?,
         }
         self.answer.say("\n")?;
         Ok(())
@@ -102,21 +109,16 @@ impl Session {
     fn set_format<'a>(&mut self, format: FormatName) -> Result<(), Mistake<'a>> {
         self.buffer = vec![in self.heap; 0; longest(format)]?;
         self.format = format;
-        self.answer.say("format ")?;
-        self.answer
-            .say(
-                match format {
-                    FormatName::Ft12 => "ft12",
-                    FormatName::Ft3 => "ft3",
-                },
-            )?;
+        match format {
+            FormatName::Ft12 => self.answer.say("format ft12")?,
+            FormatName::Ft3 => self.answer.say("format ft3")?,
+        }
         Ok(())
     }
 
     fn set_buffer<'a>(&mut self, length: u16) -> Result<(), Mistake<'a>> {
         self.buffer = vec![in self.heap; 0; usize::from(length)]?;
-        self.answer.say("buffer ")?;
-        self.answer.number(usize::from(length))?;
+        self.answer.say(format_args!("buffer {length}"))?;
         Ok(())
     }
 
@@ -134,6 +136,32 @@ impl Session {
         match self.format {
             FormatName::Ft12 => read_frame::<Ft12>(burst, &mut self.answer),
             FormatName::Ft3 => read_frame::<Ft3>(burst, &mut self.answer),
+        }
+    }
+}
+
+// The bench of a reader.
+impl Session {
+    // The library is asked before there is any memory, and an earlier reader stays until the new one is made.
+    fn put_reader<'a>(&mut self, plan: ReaderPlan) -> Result<(), Mistake<'a>> {
+        match check_reader(plan) {
+            Ok(()) => {
+                self.reader = Some(BenchReader::new(self.heap, self.format, plan)?);
+                let address = plan.address;
+                self.answer.say(format_args!("bench reader {address}"))?;
+            }
+            Err(fault) => self.answer.refused(fault)?,
+        }
+        Ok(())
+    }
+
+    fn call_reader<'a>(&mut self, call: ReaderCall) -> Result<(), Mistake<'a>> {
+        match &mut self.reader {
+            Some(reader) => {
+                reader.call(call, self.buffer.as_mut_slice(), &mut self.answer)?;
+                Ok(())
+            }
+            None => Err(Mistake::NoBench("reader")),
         }
     }
 }

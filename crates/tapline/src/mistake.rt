@@ -1,5 +1,5 @@
 // Why a line of the console is no command.
-use crate::number::NumberFault;
+use console::NumberFault;
 use std::alloc::AllocError;
 use std::alloc::Refused;
 use std::fmt;
@@ -14,6 +14,8 @@ pub enum Mistake<'a> {
     Usage(&'static str),
     Number(NumberFault, &'a [u8]),
     LongList,
+    // a call of a bench that there is not
+    NoBench(&'static str),
     OutOfMemory,
 }
 
@@ -50,6 +52,7 @@ pub impl fmt::Display for Mistake<'_> as MistakeDisplay {
                 write_word(f, word)
             }
             Mistake::LongList => f.write_str("more than 4096 octets or symbols"),
+            Mistake::NoBench(end) => write!(f, "no {end} on the bench"),
             Mistake::OutOfMemory => f.write_str("out of memory"),
         }
     }

@@ -13,7 +13,7 @@ use rules::records::Request;
 use rules::telegram::Telegram;
 
 // A send and a poll need the link set.
-pub(crate) fn is_ready(request: &Request, link: Link) -> bool
+pub fn is_ready(request: &Request, link: Link) -> bool
     ensures { λ r. ⌜ r ≡ ready (now (request .entry)) link ⌝ }
 {
     match *request {
@@ -23,7 +23,7 @@ pub(crate) fn is_ready(request: &Request, link: Link) -> bool
 }
 
 // A reset makes the link unset there and then.
-pub(crate) fn link_asked(request: &Request, link: Link) -> Link
+pub fn link_asked(request: &Request, link: Link) -> Link
     ensures { λ r. ⌜ r ≡ link-asked (now (request .entry)) link ⌝ }
 {
     match *request {
@@ -42,7 +42,7 @@ fn fixed(bit: bool, valid: bool, function: Function, address: u8) -> Telegram
 }
 
 // The frame of an exchange, the same each time that it is sent.
-pub(crate) fn transmission(exchange: &Exchange) -> Telegram
+pub fn transmission(exchange: &Exchange) -> Telegram
     ensures { λ r. ⌜ r ≡ transmission (now (exchange .entry)) ⌝ }
 {
     let address = exchange.station;

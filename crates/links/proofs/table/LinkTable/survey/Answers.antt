@@ -1,9 +1,9 @@
 use borrow.Author.Needs.{needs}
 use mathlib.Core.Path.{sym, ap, _∙_}
 use native.Mathlib.Omega.{arith}
-use Rattle.concentrator.proofs.Surveys.{partly-none, partly-set, partly-unset}
-use Rattle.concentrator.proofs.links.LinkTable.survey.Needs as need
-use Rattle.concentrator.proofs.links.LinkTable.survey.Needs.{then-get, else-get}
+use Rattle.links.proofs.Surveys.{partly-none, partly-set, partly-unset}
+use Rattle.links.proofs.table.LinkTable.survey.Needs as need
+use Rattle.links.proofs.table.LinkTable.survey.Needs.{then-get, else-get}
 
 pub loop-station-holds : need.loop-station-holds
 loop-station-holds c = partly-none (c .args .self .now .records) (c .args .buffer .now)

@@ -70,7 +70,7 @@ fn check_sender(control: Control, address: u8, station: u8) -> Result<(), Fault>
 }
 
 // How an answer ends the exchange, or why it is none to it.
-pub(crate) fn verdict(exchange: &Exchange, telegram: &Telegram) -> Result<Ending, Fault>
+pub fn verdict(exchange: &Exchange, telegram: &Telegram) -> Result<Ending, Fault>
     ensures { λ r. ⌜ r ≡ verdict (now (exchange .entry)) (now (telegram .entry)) ⌝ }
 {
     match *telegram {
@@ -91,13 +91,13 @@ pub(crate) fn verdict(exchange: &Exchange, telegram: &Telegram) -> Result<Ending
 }
 
 // ACD and DFC of an answer that has neither, or that never came.
-pub(crate) const NO_FLAGS: Flags = Flags {
+pub const NO_FLAGS: Flags = Flags {
     acd: false,
     dfc: false,
 };
 
 // ACD and DFC as heard.
-pub(crate) fn flags(telegram: &Telegram) -> Flags
+pub fn flags(telegram: &Telegram) -> Flags
     ensures { λ r. ⌜ r ≡ flags-of (now (telegram .entry)) ⌝ }
 {
     match *telegram {
@@ -110,7 +110,7 @@ pub(crate) fn flags(telegram: &Telegram) -> Flags
 }
 
 // The link after an exchange: every answer to a send or a poll flips its bit; doubt and not served unset it.
-pub(crate) fn link_after(request: Request, ending: Ending, link: Link) -> Link
+pub fn link_after(request: Request, ending: Ending, link: Link) -> Link
     ensures { λ r. ⌜ r ≡ link-after request ending link ⌝ }
 {
     match (ending, request) {

@@ -1,9 +1,12 @@
 // The links to the readers: a plain table with one record for each station.
 ghost use Rattle.rules.specs.Links.{change-link, link-at, unset-link};
-ghost use Rattle.rules.specs.Survey.{Surveyed, set-count};
-ghost use Prim.Native.Nat.{_-_, _≤_};
+ghost use Rattle.rules.specs.Survey.{Surveyed, survey-answer};
+ghost use Rattle.std.specs.Results.{Cases};
+ghost use Prim.Native.Nat.{_-_};
 ghost use lib.ListN.{length, replicate};
 ghost use mathlib.Core.Path.{_≡_};
+use fault::Cause;
+use fault::Fault;
 use rules::link::Link;
 
 // The stations are 1 to this number.
@@ -54,12 +57,15 @@ impl LinkTable {
         }
     }
 
-    // Writes the stations whose link is set at the front of the buffer, and answers how many they are.
-    pub fn survey(&self, buffer: &mut [u8]) -> usize
-        requires { ⌜ 32 ≤ length (now buffer) ⌝ }
-        ensures answer { λ r. ⌜ r ≡ set-count 32 (now (self .entry) .records) ⌝ }
-        ensures written { λ r. ⌜ Surveyed (now (self .entry) .records) (now (buffer .entry)) (now (buffer .exit)) r ⌝ }
+    // Writes the stations whose link is set, each once, at the front of the buffer, and answers how many they are.
+    // Refused with 20 under 32 places.
+    pub fn survey(&self, buffer: &mut [u8]) -> Result<usize, Fault>
+        ensures answer { λ r. ⌜ r ≡ survey-answer (now (self .entry) .records) (length (now (buffer .entry))) ⌝ }
+        ensures written { λ r. ⌜ Cases r (λ count. Surveyed (now (self .entry) .records) (now (buffer .entry)) (now (buffer .exit)) count) (λ _. now (buffer .exit) ≡ now (buffer .entry)) ⌝ }
     {
+        if buffer.len() < usize::from(STATIONS) {
+            return Err(Fault::of(Cause::ShortBuffer));
+        }
         let mut count = 0;
         for station in 1..=STATIONS {
             if self.get(station).set {
@@ -67,6 +73,6 @@ impl LinkTable {
                 count += 1;
             }
         }
-        count
+        Ok(count)
     }
 }

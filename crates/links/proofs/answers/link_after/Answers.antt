@@ -1,6 +1,6 @@
 use borrow.Author.Needs.{needs}
 use Rattle.rules.specs.Concentrator.{link-after}
-use Rattle.concentrator.proofs.answers.link_after.Needs as need
+use Rattle.links.proofs.answers.link_after.Needs as need
 
 pub returns-in-Done-Reset : need.returns-in-Done-Reset
 unfolding link-after

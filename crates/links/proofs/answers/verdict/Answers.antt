@@ -1,6 +1,6 @@
 use borrow.Author.Needs.{needs}
 use Rattle.rules.specs.Concentrator.{verdict}
-use Rattle.concentrator.proofs.answers.verdict.Needs as need
+use Rattle.links.proofs.answers.verdict.Needs as need
 
 pub returns-in-Single : need.returns-in-Single
 unfolding verdict

@@ -1,15 +1,19 @@
-// The words behind the name of a command, taken one by one.
+// The words of a command, taken one by one.
 use crate::mistake::Mistake;
 use crate::mistake::MistakeFromRefused;
-use crate::number::NumberFault;
-use crate::number::Radix;
-use crate::number::parse_number;
-use crate::words::Words;
-use crate::words::WordsIterator;
+use console::NumberFault;
+use console::Radix;
+use console::Words;
+use console::WordsIterator;
+use console::parse_number;
 use std::alloc::Global;
+use std::str::from_utf8;
 
 // The most octets or symbols of a line.
 const LONGEST_LIST: usize = 4096;
+
+// The greatest decimal number of the language.
+const MOST: u16 = 65535;
 
 // What a list on a line has: octets or symbols.
 pub trait Unit: Drop {
@@ -33,29 +37,39 @@ pub impl Unit for u16 as SymbolUnit {
 
 #[derive(Clone, Copy)]
 pub struct Arguments<'a> {
-    command: &'static str,
+    // how the command is written, for those who write it otherwise
+    usage: &'static str,
     words: Words<'a>,
 }
 
 impl<'a> Arguments<'a> {
-    pub fn new(command: &'static str, words: Words<'a>) -> Arguments<'a> {
-        Arguments { command, words }
+    pub fn new(usage: &'static str, words: Words<'a>) -> Arguments<'a> {
+        Arguments { usage, words }
     }
 
     pub fn usage(&self) -> Mistake<'a> {
-        Mistake::Usage(self.command)
+        Mistake::Usage(self.usage)
     }
 
-    pub fn word(&mut self) -> Result<&'a [u8], Mistake<'a>> {
+    fn word(&mut self) -> Result<&'a [u8], Mistake<'a>> {
         match self.words.next() {
             Some(word) => Ok(word),
             None => Err(self.usage()),
         }
     }
 
+    // A word that is to be one of the language's own; what is no text is none of them.
+    pub fn keyword(&mut self) -> Result<&'a str, Mistake<'a>> {
+        let word = self.word()?;
+        match from_utf8(word) {
+            Ok(keyword) => Ok(keyword),
+            Err(_) => Err(self.usage()),
+        }
+    }
+
     pub fn number(&mut self) -> Result<u16, Mistake<'a>> {
         let word = self.word()?;
-        match parse_number(word, Radix::Decimal, 0xffff) {
+        match parse_number(word, Radix::Decimal, MOST) {
             Ok(number) => Ok(number),
             Err(fault) => Err(Mistake::Number(fault, word)),
         }

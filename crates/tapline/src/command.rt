@@ -1,0 +1,159 @@
+// The commands of the console, and how a line is read as one.
+use crate::arguments::Arguments;
+use crate::arguments::OctetUnit;
+use crate::arguments::SymbolUnit;
+use crate::mistake::Mistake;
+use console::Words;
+use console::WordsIterator;
+use std::alloc::Global;
+use std::str::from_utf8;
+
+#[derive(Clone, Copy)]
+pub enum FormatName {
+    Ft12,
+    Ft3,
+}
+
+// What a line asks for.
+#[derive(Drop)]
+pub enum Command {
+    Format(FormatName),
+    Buffer(u16),
+    WriteSingle,
+    WriteFixed {
+        control: u8,
+        address: u8,
+    },
+    WriteVariable {
+        control: u8,
+        address: u8,
+        octets: Vec<u8>,
+    },
+    Read(Vec<u16>),
+    BenchReader(ReaderPlan),
+    Reader(ReaderCall),
+}
+
+// A reader to be made: its address, and the slots of its queues.
+#[derive(Clone, Copy)]
+pub struct ReaderPlan {
+    pub address: u16,
+    pub class1: u16,
+    pub class2: u16,
+    pub inbox: u16,
+}
+
+// What is asked of a reader.
+#[derive(Drop)]
+pub enum ReaderCall {
+    Hear(Vec<u16>),
+    Offer { class: u16, octets: Vec<u8> },
+    Collect,
+    Restart,
+}
+
+impl Command {
+    // The command of a line; none if the line is empty but for blanks and a comment.
+    pub fn parse<'a>(heap: Global, line: &'a [u8]) -> Result<Option<Command>, Mistake<'a>> {
+        let mut words = Words::new(line);
+        let Some(name) = words.next() else {
+            return Ok(None);
+        };
+        let Ok(name) = from_utf8(name) else {
+            return Err(Mistake::UnknownCommand);
+        };
+        let command = match name {
+            "format" => parse_format(Arguments::new("format", words))?,
+            "buffer" => parse_buffer(Arguments::new("buffer", words))?,
+            "write" => parse_write(heap, Arguments::new("write", words))?,
+            "read" => Command::Read(Arguments::new("read", words).list(heap)?),
+            "bench" => parse_bench(Arguments::new("bench", words))?,
+            "r" => Command::Reader(parse_reader_call(heap, Arguments::new("r", words))?),
+            _ => return Err(Mistake::UnknownCommand),
+        };
+        Ok(Some(command))
+    }
+}
+
+fn parse_format<'a>(mut arguments: Arguments<'a>) -> Result<Command, Mistake<'a>> {
+    let format = match arguments.keyword()? {
+        "ft12" => FormatName::Ft12,
+        "ft3" => FormatName::Ft3,
+        _ => return Err(arguments.usage()),
+    };
+    arguments.end()?;
+    Ok(Command::Format(format))
+}
+
+fn parse_buffer<'a>(mut arguments: Arguments<'a>) -> Result<Command, Mistake<'a>> {
+    let length = arguments.number()?;
+    arguments.end()?;
+    Ok(Command::Buffer(length))
+}
+
+fn parse_write<'a>(heap: Global, mut arguments: Arguments<'a>) -> Result<Command, Mistake<'a>> {
+    match arguments.keyword()? {
+        "single" => {
+            arguments.end()?;
+            Ok(Command::WriteSingle)
+        }
+        "fixed" => {
+            let control = arguments.octet()?;
+            let address = arguments.octet()?;
+            arguments.end()?;
+            Ok(Command::WriteFixed { control, address })
+        }
+        "variable" => {
+            let control = arguments.octet()?;
+            let address = arguments.octet()?;
+            let octets = arguments.list(heap)?;
+            Ok(Command::WriteVariable {
+                control,
+                address,
+                octets,
+            })
+        }
+        _ => Err(arguments.usage()),
+    }
+}
+
+fn parse_bench<'a>(mut arguments: Arguments<'a>) -> Result<Command, Mistake<'a>> {
+    match arguments.keyword()? {
+        "reader" => Ok(Command::BenchReader(parse_reader_plan(arguments)?)),
+        _ => Err(arguments.usage()),
+    }
+}
+
+fn parse_reader_plan<'a>(mut arguments: Arguments<'a>) -> Result<ReaderPlan, Mistake<'a>> {
+    let plan = ReaderPlan {
+        address: arguments.number()?,
+        class1: arguments.number()?,
+        class2: arguments.number()?,
+        inbox: arguments.number()?,
+    };
+    arguments.end()?;
+    Ok(plan)
+}
+
+fn parse_reader_call<'a>(
+    heap: Global,
+    mut arguments: Arguments<'a>,
+) -> Result<ReaderCall, Mistake<'a>> {
+    match arguments.keyword()? {
+        "hear" => Ok(ReaderCall::Hear(arguments.list(heap)?)),
+        "offer" => {
+            let class = arguments.number()?;
+            let octets = arguments.list(heap)?;
+            Ok(ReaderCall::Offer { class, octets })
+        }
+        "collect" => {
+            arguments.end()?;
+            Ok(ReaderCall::Collect)
+        }
+        "restart" => {
+            arguments.end()?;
+            Ok(ReaderCall::Restart)
+        }
+        _ => Err(arguments.usage()),
+    }
+}
