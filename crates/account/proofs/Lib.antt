@@ -9,5 +9,8 @@ pub mod State
 pub mod Invariant
 pub mod Room
 pub mod Tied
+pub mod States
 pub mod Barred
 pub mod TwoEnds
+pub mod Sample
+pub mod Places

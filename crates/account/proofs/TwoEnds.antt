@@ -11,6 +11,7 @@ use Rattle.account.proofs.Invariant.{Inv, inv-new, inv-run}
 use Rattle.account.proofs.Pair.{Live, Pair, Sync, open-for, send-in, shut, sync-of, view}
 use Rattle.account.proofs.Room.{Room, room-kept, room-run}
 use Rattle.account.proofs.State.{Stands, Stood, open-at, to-case}
+use Rattle.account.proofs.States.{handed-states, waiting-states}
 use Rattle.account.proofs.Stations.{address-of, all-found}
 use Rattle.account.proofs.Tied.{Books, Landed, Tied, books-new, books-run}
 use Rattle.account.proofs.Valid.{Valid-world, new-valid, valid-run}
@@ -66,6 +67,8 @@ account w i b a s e =
         numbered = t .0 .offered;
         each = t .0 .each;
         waits = t .0 .waits;
+        waiting-so = waiting-states (s .up) (t .0 .offered) (t .0 .each);
+        handed-so = handed-states (s .up) (t .0 .offered) (t .0 .each);
         out = p .pair .outs;
         accounted = p .pair .ups;
         kept = t .1;

@@ -5,12 +5,13 @@ use mathlib.Core.Logic.{_⊎_}
 use mathlib.Core.Path.{_≡_}
 use Prim.Native.Nat.{ℕ}
 use lib.Dec.{eqb}
-use Rattle.account.specs.Books.{Station, found, waiting}
+use Rattle.account.specs.Books.{Station, found, offer-state, waiting}
 use Rattle.account.specs.Ledger.{Hand-outs-come, Handed, Numbered, Requested, Sends-come}
 use Rattle.account.specs.Line.{Fitting, Run, World, new-world}
 use Rattle.account.specs.declared.books.HandOut.{HandOut}
 use Rattle.account.specs.declared.books.Item.{Item}
 use Rattle.account.specs.declared.books.Offer.{Offer}
+use Rattle.account.specs.declared.books.OfferState.the-variants.{Waiting}
 use Rattle.frame.specs.declared.Format.{Ghosts}
 use Rattle.rules.specs.Concentrator.{Concentrator, has-room}
 use Rattle.rules.specs.Links.{link-at}
@@ -71,13 +72,15 @@ pub record Sends-accounted (k : Concentrator) (s : Station) : Type 0 where
   pub kept : messages (s .down .entered) ≡ reverse (s .reader .inbox .records) ++ s .down .collected
   pub requests : Requested (open-send (k .exchange) (s .reader .address)) (s .down .sends)
 
--- A reader's offers: they are numbered in the order of acceptance; each waits or was handed out, and those of a class are handed
--- out in their order; what waits is what the class's queue holds; the message out is the newest hand-out, and each other is settled
--- or doubtful; only hand-outs arrive, in their order and as often as their states say; what arrived is among the arrivals or was fetched.
+-- A reader's offers: they are numbered in the order of acceptance; each waits or was handed out, those of a class in their order, and
+-- has that one state; what waits is what the class's queue holds; the message out is the newest hand-out, and each other is settled or
+-- doubtful; only hand-outs arrive, in their order and as often as their states say; what arrived is among the arrivals or was fetched.
 pub record Offers-accounted (k : Concentrator) (s : Station) : Type 0 where
   pub numbered : Numbered (map (λ o. o .item) (s .up .offered))
   pub each : (c : Class) → of-class c (s .up .offered) ≡ reverse (waiting c (s .up)) ++ of-class c (offers-handed (s .up .handed))
   pub waits : (c : Class) → messages (waiting c (s .up)) ≡ class-queue c (s .reader) .records
+  pub waiting-so : (c : Class) → All (λ i. offer-state (i .number) (s .up .handed) ≡ Waiting) (waiting c (s .up))
+  pub handed-so : All (λ h. offer-state (h .offer .item .number) (s .up .handed) ≡ h .state) (s .up .handed)
   pub out : Handed (s .reader .out) (s .up .handed)
   pub accounted : Hand-outs-come (s .up .handed) (s .up .arrived)
   pub kept : messages (s .up .arrived) ≡ from-station (s .reader .address) (reverse (k .arrivals .records)) ++ s .up .fetched

@@ -7,7 +7,8 @@ use lib.ListN.{length}
 use Rattle.account.specs.declared.books.HandOut.{HandOut}
 use Rattle.account.specs.declared.books.Item.{Item}
 use Rattle.account.specs.declared.books.Offer.{Offer}
-use Rattle.account.specs.declared.books.OfferState.the-variants.{Out, Marked}
+use Rattle.account.specs.declared.books.OfferState.{OfferState}
+use Rattle.account.specs.declared.books.OfferState.the-variants.{Waiting, Out, Marked}
 use Rattle.account.specs.declared.books.SendState.the-variants.{Open, Ended}
 use Rattle.account.specs.declared.books.Sending.{Sending}
 use Rattle.queue.specs.Fifo.{take-contents}
@@ -227,3 +228,8 @@ turned n t s = record {
 abbrev pub newest-hand-out : List HandOut → ℕ
 newest-hand-out [] = 0
 newest-hand-out (h ∷ l) = h .offer .item .number
+
+-- the state of an offer, by its number: that of its hand-out, or waiting if it was not handed out
+abbrev pub offer-state : ℕ → List HandOut → OfferState
+offer-state n [] = Waiting
+offer-state n (h ∷ l) = cond (eqb (h .offer .item .number) n) (h .state) (offer-state n l)

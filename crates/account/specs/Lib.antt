@@ -2,3 +2,4 @@ pub mod Ledger
 pub mod Books
 pub mod Line
 pub mod Account
+pub mod Sample

@@ -9,14 +9,14 @@ use native.Mathlib.Omega.{arith}
 use lib.Dec.{eqb}
 use lib.ListN.{length, drop, getD}
 use Rattle.console.specs.Numbers.{and-then, base-of, digit-of, limited, number-of, value-after}
-use Rattle.console.specs.declared.number.NumberFault.the-variants.{NoNumber, OutOfRange}
+use Rattle.console.specs.declared.number.NumberFault.the-variants.{NoNumber}
 use Rattle.console.specs.declared.number.Radix.{Radix}
 use Rattle.console.specs.declared.number.Radix.the-variants.{Decimal, Hexadecimal}
 use Rattle.std.proofs.shelf.Lists.{drop-more, drop-all}
 use Rattle.std.proofs.shelf.Ways.{tells}
 use Rattle.std.specs.declared.option.Option.{Option}
 use Rattle.std.specs.declared.option.Option.the-variants.{None, Some}
-use Rattle.std.specs.declared.result.Result.the-variants.{Ok, Err}
+use Rattle.std.specs.declared.result.Result.the-variants.{Err}
 
 -- one more digit does not make a value smaller
 grows : (radix : Radix) (most v d : ℕ) → most < v → most < v * base-of radix + d
@@ -79,9 +79,3 @@ pub no-more :
     length word ≤ i →
     limited most (value-after radix v (drop i word)) ≡ limited most (Some v)
 no-more radix most v i word h = rw (drop-all i word h) refl
-
-pub over : (most v : ℕ) → most < v → limited most (Some v) ≡ Err OutOfRange
-over most v h = grind (arith, tells)
-
-pub within : (most v : ℕ) → v ≤ most → limited most (Some v) ≡ Ok v
-within most v h = grind (arith, tells)

@@ -3,7 +3,7 @@ use mathlib.Core.Bool.{Bool, cond, not, _||_}
 use mathlib.Core.List.{List, [], _∷_}
 use Prim.Native.Nat.{ℕ}
 use lib.Dec.{eqb}
-use lib.ListN.{length, take}
+use lib.ListN.{drop, take}
 use Rattle.console.specs.declared.words.Kind.{Kind}
 use Rattle.console.specs.declared.words.Kind.the-variants.{Blank, Word, Spoken}
 use Rattle.std.specs.shelf.Lists.{leading}
@@ -41,3 +41,15 @@ not-empty ((byte ∷ bytes) ∷ parts) = (byte ∷ bytes) ∷ not-empty parts
 -- the words of a text
 abbrev pub words-of : List ℕ → List (List ℕ)
 words-of text = not-empty (parts-of text)
+
+-- a text without the blanks at its front
+abbrev pub unblanked : List ℕ → List ℕ
+unblanked text = drop (leading (is-a Blank) text) text
+
+-- the first word of a text, empty if there is none
+abbrev pub first-word : List ℕ → List ℕ
+first-word text = take (leading (is-a Word) (unblanked text)) (unblanked text)
+
+-- what follows the first word
+abbrev pub after-word : List ℕ → List ℕ
+after-word text = drop (leading (is-a Word) (unblanked text)) (unblanked text)

@@ -1,16 +1,17 @@
 // Numbers as the console writes them: digits and nothing else, with any leading zeros.
-ghost use Rattle.console.specs.Numbers.{base-of, digit-of, number-of};
+ghost use Rattle.console.specs.Numbers.{base-of, digit-of, limited, number-of};
+ghost use Rattle.std.specs.declared.option.Option.the-variants.{Some};
 ghost use mathlib.Core.Path.{_≡_};
 
 // What the digits of a number count by.
-#[derive(Clone, Copy, PartialEq, Eq, Debug)]
+#[derive(Clone, Copy)]
 pub enum Radix {
     Decimal,
     Hexadecimal,
 }
 
 // Why a word is no number of its type.
-#[derive(Clone, Copy, PartialEq, Eq, Debug)]
+#[derive(Clone, Copy)]
 pub enum NumberFault {
     NoNumber,
     OutOfRange,
@@ -55,6 +56,12 @@ pub fn parse_number(word: &[u8], radix: Radix, most: u16) -> Result<u16, NumberF
         };
         value = (value * radix.base() + u32::from(digit)).min(BEYOND);
     }
+    limit(value, most)
+}
+
+fn limit(value: u32, most: u16) -> Result<u16, NumberFault>
+    ensures { λ r. ⌜ r ≡ limited most (Some value) ⌝ }
+{
     if value > u32::from(most) {
         return Err(NumberFault::OutOfRange);
     }

@@ -1,5 +1,6 @@
 // The words of a line: what stands between blanks, up to a comment.
-ghost use Rattle.console.specs.Words.{is-a, spoken, words-of};
+ghost use Rattle.console.specs.Words.{after-word, first-word, is-a, spoken, words-of};
+ghost use Prim.Native.Nat.{_+_, _≤_};
 ghost use Rattle.std.specs.Options.{Cases as BySome};
 ghost use Rattle.std.specs.shelf.Lists.{leading};
 ghost use denote.Ref.{now};
@@ -8,7 +9,7 @@ ghost use mathlib.Core.List.{[], _∷_};
 ghost use mathlib.Core.Path.{_≡_};
 
 // What a byte of a line may be taken for.
-#[derive(Clone, Copy, PartialEq, Eq, Debug)]
+#[derive(Clone, Copy)]
 pub enum Kind {
     // a space or a tab
     Blank,
@@ -31,7 +32,8 @@ impl Kind {
 
     // How many bytes at the front are of this kind.
     fn run_length(self, text: &[u8]) -> usize
-        ensures { λ r. ⌜ r ≡ leading (is-a self) (now (text .entry)) ⌝ }
+        ensures count { λ r. ⌜ r ≡ leading (is-a self) (now (text .entry)) ⌝ }
+        ensures within { λ r. ⌜ r ≤ length (now (text .entry)) ⌝ }
     {
         for (i, byte) in text.iter().enumerate() {
             if !self.has(*byte) {
@@ -68,9 +70,18 @@ pub impl<'a> Iterator for Words<'a> as WordsIterator {
     ghost steps = { λ w r v. BySome r (words-of (now (w .rest)) ≡ []) (λ x. words-of (now (w .rest)) ≡ now x ∷ words-of (now (v .rest))) };
 
     fn next(&mut self) -> Option<&'a [u8]> {
-        let (_, text) = self.rest.split_at(Kind::Blank.run_length(self.rest));
-        let (word, rest) = text.split_at(Kind::Word.run_length(text));
+        let (word, rest) = cut_word(self.rest);
         self.rest = rest;
         if word.is_empty() { None } else { Some(word) }
     }
+}
+
+// The first word of a text, empty if there is none, and what follows it.
+fn cut_word(text: &[u8]) -> (&[u8], &[u8])
+    ensures word { λ r. ⌜ now (r .0) ≡ first-word (now (text .entry)) ⌝ }
+    ensures rest { λ r. ⌜ now (r .1) ≡ after-word (now (text .entry)) ⌝ }
+    ensures within { λ r. ⌜ length (now (r .0)) + length (now (r .1)) ≤ length (now (text .entry)) ⌝ }
+{
+    let (_, text) = text.split_at(Kind::Blank.run_length(text));
+    text.split_at(Kind::Word.run_length(text))
 }

@@ -39,11 +39,10 @@ impl LinkTable {
     {
         let records: &[Link] = &self.records;
         let place = place_of(station);
-        if place < records.len() {
-            records[place]
-        } else {
-            Link::UNSET
+        if place >= records.len() {
+            return Link::UNSET;
         }
+        records[place]
     }
 
     // Changes one record, in place.

@@ -1,6 +1,6 @@
 use mathlib.Core.Path.{sym, _∙_}
 use native.Mathlib.Omega.{arith}
-use Rattle.console.proofs.Numbers.{number-is, no-digit, one-digit, no-more, over, within}
+use Rattle.console.proofs.Numbers.{number-is, no-digit, one-digit, no-more}
 use Rattle.console.proofs.number.parse_number.Needs as need
 
 pub returns-in-rest : need.returns-in-rest
@@ -11,10 +11,6 @@ pub loop-byte-again : need.loop-byte-again
 loop-byte-again c =
     (omega arith, one-digit _ _ _ _ _ _ _ _ _ (c .loop-byte-test .taken) (sym (c .in-Some .ensures tt)) (c .fits .most .fits) (c .base .ensures) (c .from .ensures) (c .min-value .ensures) ∙ c .loop-byte .inv .1)
 
-pub returns-then-value-from : need.returns-then-value-from
-returns-then-value-from c =
-    sym (number-is _ _ _ (sym (c .if-is-empty .ensures tt)) ∙ sym (c .loop-byte .inv .1) ∙ no-more _ _ _ _ _ (c .loop-byte-test .left) ∙ over _ _ (omega arith))
-
 pub returns : need.returns
 returns c =
-    sym (number-is _ _ _ (sym (c .if-is-empty .ensures tt)) ∙ sym (c .loop-byte .inv .1) ∙ no-more _ _ _ _ _ (c .loop-byte-test .left) ∙ within _ _ (omega arith))
+    c .limit .ensures ∙ sym (number-is _ _ _ (sym (c .if-is-empty .ensures tt)) ∙ sym (c .loop-byte .inv .1) ∙ no-more _ _ _ _ _ (c .loop-byte-test .left))
