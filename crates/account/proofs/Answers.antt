@@ -1,11 +1,8 @@
 -- What the concentrator understands of a reader's answers, and a reader of the concentrator's requests.
-use mathlib.Core.Path.{_≡_, refl}
-use mathlib.Core.Bool.{Bool, true, false, cond, not, _||_, Bool·beq}
-use Prim.Native.Nat.{ℕ}
-use lib.Dec.{eqb}
+use mathlib.Core.Path.{_≡_}
+use mathlib.Core.Bool.{Bool, true, Bool·beq}
 use native.Mathlib.Omega.{arith}
 use Rattle.account.proofs.Pair.{alive-back, verdict-of}
-use Rattle.fault.specs.declared.Fault.{Fault}
 use Rattle.rules.specs.Concentrator.{request-telegram, verdict}
 use Rattle.rules.specs.Reader as rd
 use Rattle.rules.specs.Reader.{Reader, give, hear-telegram, take}
@@ -15,7 +12,7 @@ use Rattle.rules.specs.declared.records.Ending.the-variants.{Done, Confirmed, B
 use Rattle.rules.specs.declared.records.Reply.the-variants as reply
 use Rattle.rules.specs.declared.records.Request.the-variants.{Reset, Status, Send, Poll}
 use Rattle.std.proofs.shelf.Ways.{tells}
-use Rattle.std.specs.declared.result.Result.the-variants.{Ok, Err}
+use Rattle.std.specs.declared.result.Result.the-variants.{Ok}
 
 module _ (r : Reader) where
   pub hears-reset : (b : Bool) → hear-telegram (request-telegram Reset b (r .address)) r ≡ rd.answer rd.reset r

@@ -1,7 +1,7 @@
 -- From a link that is unset at either end nothing moves until a reset is done.
 use mathlib.Core.Path.{_≡_, refl, sym, _∙_, ap, subst}
-use mathlib.Core.List.{List, [], _∷_, _++_, map}
-use mathlib.Core.Bool.{Bool, true, false, cond, not, Bool·beq, true≢false}
+use mathlib.Core.List.{List, [], _∷_}
+use mathlib.Core.Bool.{Bool, true, false, cond, Bool·beq, true≢false}
 use mathlib.Core.Logic.{_⊎_, inl, inr}
 use Prim.Native.Nat.{ℕ, _+_, _≤_}
 use native.Mathlib.Omega.{arith}
@@ -10,12 +10,12 @@ use lib.ListN.{length}
 use borrow.Author.Tests.{eqb-true}
 use Rattle.account.proofs.Answers.{hears-poll, hears-reset, hears-send, hears-status}
 use Rattle.account.proofs.Bursts.{alive, dead-refused}
-use Rattle.account.proofs.Calls.{Asked, Ends, Offers, Timing, Turns, accepts, asks, closes, doubts, hears, not-offered, offers, opened, repeats, times, turns}
+use Rattle.account.proofs.Calls.{Asked, Ends, Offers, Timing, Turns, accepts, asks, closes, doubts, hears, offers, opened, repeats, times, turns}
 use Rattle.account.proofs.Hearing.{after, count-gone, unset-of}
 use Rattle.account.proofs.Invariant.{Inv, collect-view, inv-run, offer-view, same-telegram, turn-address}
-use Rattle.account.proofs.Pair.{Counted, Live, Mode, Open, Pair, asking, fresh, gone, open-for, resetting, taken, view}
-use Rattle.account.proofs.State.{Known, Request-heard, Stands, State, heard-none, heard-request, link-changed, telegram-of}
-use Rattle.account.proofs.Stations.{Distinct, address-of, all-found, all-map, each-changed, each-found, each-same, each-then, own-found, some-same, turned-round}
+use Rattle.account.proofs.Pair.{Counted, Live, Mode, asking, fresh, gone, open-for, resetting, taken, view}
+use Rattle.account.proofs.State.{Known, Stands, State, heard-none, heard-request, link-changed, telegram-of}
+use Rattle.account.proofs.Stations.{address-of, all-found, all-map, each-changed, each-found, each-same, each-then, own-found, some-same, turned-round}
 use Rattle.account.proofs.Tied.{marks-offers}
 use Rattle.account.proofs.Valid.{Says-well, Valid-world, burst-valid, valid-run}
 use Rattle.account.specs.Account.{Nothing-moved, Unset, offers-handed}
@@ -27,13 +27,12 @@ use Rattle.fault.specs.declared.Fault.{Fault}
 use Rattle.frame.specs.Laws.{GuardLaw, VerdictLaw}
 use Rattle.frame.specs.declared.Format.{Ghosts}
 use Rattle.rules.specs.Concentrator as co
-use Rattle.rules.specs.Concentrator.{Concentrator, link-after, link-asked, request-telegram}
+use Rattle.rules.specs.Concentrator.{link-after, link-asked, request-telegram}
 use Rattle.rules.specs.Links.{change-link, link-at}
 use Rattle.rules.specs.Reader as rd
 use Rattle.rules.specs.Reader.{Task, Turn, give, hear-telegram, take}
 use Rattle.rules.specs.Telegrams.{telegram-read}
 use Rattle.rules.specs.declared.link.Link.{Link}
-use Rattle.rules.specs.declared.message.Message.{Message}
 use Rattle.rules.specs.declared.records.Arrival.{Arrival}
 use Rattle.rules.specs.declared.records.Class.the-variants.{First, Second}
 use Rattle.rules.specs.declared.records.Ending.{Ending}

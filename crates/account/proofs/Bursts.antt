@@ -1,14 +1,14 @@
 -- The bursts on the way to an end, of which at most one can move anything there.
-use mathlib.Core.Path.{_≡_, refl, sym, _∙_, ap, subst}
+use mathlib.Core.Path.{_≡_, refl, sym, _∙_, ap}
 use mathlib.Core.List.{List, [], _∷_, _++_, append-nil, map}
-use mathlib.Core.Bool.{Bool, true, false, cond, not, _&&_}
-use Prim.Native.Nat.{ℕ, zero, suc, _+_, _<_}
+use mathlib.Core.Bool.{Bool, true, false, cond, _&&_}
+use Prim.Native.Nat.{ℕ, zero, suc, _<_}
 use native.Mathlib.Omega.{arith}
 use lib.Dec.{eqb}
 use lib.ListN.{length, getD, set, replicate}
 use lib.Seq.{getD-set-other}
 use borrow.Author.Tests.{eqb-false}
-use Rattle.account.proofs.Pair.{Word, alive-back, verdict-of}
+use Rattle.account.proofs.Pair.{Word, alive-back}
 use Rattle.account.specs.Line.{Burst, None-to, gone, lost-everywhere, on-way}
 use Rattle.fault.specs.declared.Fault.{Fault}
 use Rattle.fault.specs.Causes.{fault}
@@ -21,8 +21,7 @@ use Rattle.rules.specs.declared.records.Request.{Request}
 use Rattle.rules.specs.declared.telegram.Telegram.{Telegram}
 use Rattle.rules.specs.declared.telegram.Telegram.the-variants.{Single, Fixed, Variable}
 use Rattle.std.proofs.shelf.Ways.{tells}
-use Rattle.std.specs.declared.result.Result.the-variants.{Ok, Err}
-use Rattle.std.specs.shelf.Lists.{All}
+use Rattle.std.specs.declared.result.Result.the-variants.{Err}
 
 -- is it for a reader
 abbrev pub alive : ℕ → Telegram → Bool

@@ -1,8 +1,8 @@
 -- What a call can come to: each call of either end, by its outcomes.
-use mathlib.Core.Path.{_≡_, refl, sym, _∙_, ap, subst}
-use mathlib.Core.List.{List, [], _∷_, _++_}
+use mathlib.Core.Path.{_≡_, refl}
+use mathlib.Core.List.{List, [], _∷_}
 use mathlib.Core.Bool.{Bool, true, false, cond, not, Bool·beq}
-use Prim.Native.Nat.{ℕ, _≤_, _<_}
+use Prim.Native.Nat.{ℕ, _≤_}
 use native.Mathlib.Omega.{arith}
 use lib.Dec.{eqb, leb}
 use lib.ListN.{length}
@@ -14,7 +14,7 @@ use Rattle.fault.specs.declared.Fault.{Fault}
 use Rattle.frame.specs.Controls.{bit, code-of}
 use Rattle.frame.specs.Verdicts.{must}
 use Rattle.frame.specs.declared.control.Control.{Control}
-use Rattle.queue.specs.Fifo.{full, put-answer}
+use Rattle.queue.specs.Fifo.{full}
 use Rattle.rules.specs.Concentrator as co
 use Rattle.rules.specs.Concentrator.{Asking, Concentrator, closing, first-exchange, flags-of, for-poll, for-reset, for-send, for-status, has-room, no-flags, once-more, opening, ready, verdict, with-exchange}
 use Rattle.rules.specs.Functions.{class-of, function-of}

@@ -1,10 +1,10 @@
 -- A reader hears the request of the exchange that is open to it.
 use mathlib.Core.Path.{_≡_, refl, sym, _∙_, ap, subst}
-use mathlib.Core.List.{List, [], _∷_, _++_}
-use mathlib.Core.Bool.{Bool, true, false, cond, not, Bool·beq}
+use mathlib.Core.List.{List, [], _∷_}
+use mathlib.Core.Bool.{Bool, true, false, not, Bool·beq}
 use Prim.Native.Nat.{ℕ}
 use Rattle.account.proofs.Answers.{acks-reset, acks-send, brings, goes-ack, goes-busy, goes-data, goes-none, goes-status, has-none, hears-poll, hears-reset, hears-send, hears-status, is-busy, tells-status}
-use Rattle.account.proofs.Pair.{Carries, Counted, Flying, Home, Live, Meant, Mode, Open, Pair, Untaken, View, Word, answer-flies, asking, coming, for-poll, for-send, fresh, going, gone, item, marked-all, marked-come, none-flies, nowhere, of-busy, of-confirmed, of-data, of-empty, of-reset, of-status, open-for, open-sending, request-flies, resetting, rest, settled-come, shut, taken, view}
+use Rattle.account.proofs.Pair.{Carries, Counted, Home, Live, Mode, Pair, Untaken, View, answer-flies, coming, for-send, fresh, gone, item, marked-all, marked-come, none-flies, nowhere, of-busy, of-confirmed, of-data, of-empty, of-reset, of-status, open-for, resetting, settled-come, taken, view}
 use Rattle.account.specs.Books.{Station, by-class, newest-hand-out, newest-sent, turned}
 use Rattle.account.specs.Ledger.{Hand-outs-come, Handed, Sends-come, came, lacks, none-out, one-out}
 use Rattle.fault.specs.declared.Fault.{Fault}

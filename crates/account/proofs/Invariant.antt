@@ -1,19 +1,19 @@
 -- What holds of a line after every run.
 use mathlib.Core.Path.{_≡_, refl, sym, _∙_, ap, subst}
 use mathlib.Core.List.{List, [], _∷_, _++_, map}
-use mathlib.Core.Bool.{Bool, true, false, cond, not}
-use Prim.Native.Nat.{ℕ, zero, suc, _-_, _<_}
+use mathlib.Core.Bool.{Bool, true, false, cond}
+use Prim.Native.Nat.{ℕ, zero, suc, _-_}
 use native.Mathlib.Omega.{arith}
 use lib.Dec.{eqb}
 use lib.ListN.{length, getD, length-set, replicate, set}
 use borrow.Author.Tests.{eqb-true}
 use Rattle.account.proofs.Bursts.{alive, dead-refused, dead-wrong, keep, left-elsewhere, lost-kept, none-kept, none-left, only-left, word}
-use Rattle.account.proofs.Calls.{Asked, Ends, Offers, Timing, Turns, accepts, asks, closes, declined, doubts, gives, has-none, hears, is-busy, no-turn, none-there, not-offered, not-read, not-taken, not-timed, offers, opened, repeats, resets, says-again, says-so, takes, times, turns}
+use Rattle.account.proofs.Calls.{Asked, Ends, Offers, Timing, Turns, accepts, asks, closes, declined, doubts, gives, has-none, hears, is-busy, offers, opened, repeats, resets, says-again, says-so, takes, times, turns}
 use Rattle.account.proofs.Hearing.{Good}
-use Rattle.account.proofs.Pair.{Live, Open, Pair, Word, alive-back, coming, going, never-set, none-flies, nowhere, open-for, pair-doubt, pair-opens, pair-restart, request-flies, rest, shut, view}
+use Rattle.account.proofs.Pair.{Live, Open, Pair, alive-back, coming, going, never-set, none-flies, nowhere, open-for, pair-doubt, pair-opens, pair-restart, request-flies, rest, shut, view}
 use Rattle.account.proofs.State.{Known, Ready, Stands, State, answer-ends, answered-state, ended-state, heard-good, heard-none, heard-request, known-some, link-changed, live-at, live-in, open-at, pair-lost, sent-state, shown-back, shown-to, stands-kept, state-left, to-case}
-use Rattle.account.proofs.Stations.{Distinct, address-of, all-both, all-changed, all-found, all-map, all-of, distinct-changed, own, turned-round}
-use Rattle.account.proofs.Valid.{Sayable, Says-well, Valid-world, burst-valid, valid-run}
+use Rattle.account.proofs.Stations.{Distinct, address-of, all-both, all-changed, all-found, all-map, distinct-changed, turned-round}
+use Rattle.account.proofs.Valid.{Says-well, Valid-world, burst-valid, valid-run}
 use Rattle.account.specs.Account.{Apart}
 use Rattle.account.specs.Books as books
 use Rattle.account.specs.Books.{Station, asked, change, ended, fetched, found, turned}
@@ -21,12 +21,11 @@ use Rattle.account.specs.Ledger.{none-open, none-out, nothing}
 use Rattle.account.specs.Line as line
 use Rattle.account.specs.Line.{Burst, Event, Fitting, Heard-as, Limit, On-way, Run, Silent, World, answered, begin, concluded, gone, hears-at, leaves, new-station, new-world, requested, step, then, timed}
 use Rattle.fault.specs.declared.Fault.{Fault}
-use Rattle.frame.specs.Contents.{Meaning, Valid}
-use Rattle.frame.specs.Damage.{Damaged}
+use Rattle.frame.specs.Contents.{Meaning}
 use Rattle.frame.specs.Laws.{GuardLaw, VerdictLaw}
 use Rattle.frame.specs.declared.Format.{Ghosts}
 use Rattle.rules.specs.Concentrator as co
-use Rattle.rules.specs.Concentrator.{Concentrator, first-exchange, link-after, link-asked, once-more, ready, request-telegram, verdict}
+use Rattle.rules.specs.Concentrator.{Concentrator, first-exchange, link-asked, once-more, ready, request-telegram, verdict}
 use Rattle.rules.specs.Links.{change-link, link-at, unset-link}
 use Rattle.rules.specs.Reader as rd
 use Rattle.rules.specs.Reader.{Turn, hear-telegram}

@@ -1,7 +1,7 @@
 -- One reader and the concentrator's link to it: what holds between them, and that each move keeps it.
-use mathlib.Core.Path.{_≡_, refl, sym, _∙_, ap, subst}
-use mathlib.Core.List.{List, [], _∷_, _++_}
-use mathlib.Core.Bool.{Bool, true, false, cond, not, false≢true}
+use mathlib.Core.Path.{_≡_, refl, sym, _∙_, ap}
+use mathlib.Core.List.{List, _∷_}
+use mathlib.Core.Bool.{Bool, true, false, not, false≢true}
 use Prim.Native.Nat.{ℕ, _+_}
 use lib.ListN.{length}
 use Rattle.account.specs.Account.{sent-by}
@@ -9,7 +9,6 @@ use Rattle.account.specs.Books.{Station, asked, ended, ends-send, marks, newes
 use Rattle.account.specs.Ledger.{All-ended, All-marked, Hand-outs-come, Handed, Has-ended, May-come, May-lack, Requested, Sends-come, came, lacks, none-open, none-out, nothing, offer-fate, one-open, one-out}
 use Rattle.account.specs.declared.books.HandOut.{HandOut}
 use Rattle.account.specs.declared.books.Item.{Item}
-use Rattle.account.specs.declared.books.Offer.{Offer}
 use Rattle.account.specs.declared.books.OfferState.the-variants.{Marked}
 use Rattle.account.specs.declared.books.SendState.the-variants.{Ended, Open as Is-open}
 use Rattle.account.specs.declared.books.Sending.{Sending}
@@ -22,7 +21,7 @@ use Rattle.rules.specs.declared.link.Link.{Link}
 use Rattle.rules.specs.declared.message.Message.{Message}
 use Rattle.rules.specs.declared.records.Class.{Class}
 use Rattle.rules.specs.declared.records.Ending.{Ending}
-use Rattle.rules.specs.declared.records.Ending.the-variants.{Done, Confirmed, Busy, Brought, Empty, Unserved, Doubted}
+use Rattle.rules.specs.declared.records.Ending.the-variants.{Done, Confirmed, Busy, Brought, Empty, Doubted}
 use Rattle.rules.specs.declared.records.Exchange.{Exchange}
 use Rattle.rules.specs.declared.records.Mark.{Mark}
 use Rattle.rules.specs.declared.records.Mark.the-variants.{Settled, Doubtful}
@@ -33,7 +32,7 @@ use Rattle.rules.specs.declared.telegram.Telegram.the-variants.{Single, Fixed, 
 use Rattle.std.specs.declared.option.Option.{Option}
 use Rattle.std.specs.declared.option.Option.the-variants.{Some, None}
 use Rattle.std.specs.declared.result.Result.{Result}
-use Rattle.std.specs.declared.result.Result.the-variants.{Ok, Err}
+use Rattle.std.specs.declared.result.Result.the-variants.{Ok}
 
 -- What the relation between the two sees of a station.
 pub record View : Type 0 where

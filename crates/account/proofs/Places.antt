@@ -1,21 +1,19 @@
 -- Readers by their place in the list, for a line that is kept in memory so.
-use mathlib.Core.Path.{_≡_, refl, sym, _∙_, ap, subst}
-use mathlib.Core.List.{List, [], _∷_, _++_, map}
-use mathlib.Core.Bool.{Bool, true, false, cond}
+use mathlib.Core.Path.{_≡_, refl, _∙_, ap}
+use mathlib.Core.List.{List, [], _∷_}
+use mathlib.Core.Bool.{false, cond}
 use Prim.Native.Nat.{ℕ, zero, suc, _<_}
 use native.Mathlib.Omega.{arith}
 use lib.Dec.{eqb}
 use lib.ListN.{length, getD, set}
-use borrow.Author.Tests.{eqb-true}
 use Rattle.account.proofs.Invariant.{inv-new, inv-run}
 use Rattle.account.proofs.Stations.{Distinct, address-of, own, turned-round}
 use Rattle.account.proofs.Valid.{new-valid}
 use Rattle.account.specs.Account.{Apart}
 use Rattle.account.specs.Books.{Station, change, found}
-use Rattle.account.specs.Line.{Event, Fitting, Limit, Run, World, begin, new-world, step, then}
+use Rattle.account.specs.Line.{Fitting, Run, World, begin, new-world, then}
 use Rattle.frame.specs.Laws.{GuardLaw, VerdictLaw}
 use Rattle.frame.specs.declared.Format.{Ghosts}
-use Rattle.std.specs.declared.option.Option.{Option}
 use Rattle.std.specs.declared.option.Option.the-variants.{Some, None}
 use Rattle.std.specs.shelf.Lists.{All}
 

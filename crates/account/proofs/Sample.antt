@@ -1,34 +1,32 @@
 -- A run without mishaps, computed, over every format that keeps its laws.
-use mathlib.Core.Path.{_≡_, refl, sym, _∙_, ap, subst}
-use mathlib.Core.List.{List, [], _∷_, _++_}
-use mathlib.Core.Bool.{Bool, true, false, cond, _&&_}
-use Prim.Native.Nat.{ℕ, zero, suc, _+_, _≤_, _<_}
+use mathlib.Core.Path.{_≡_, refl, _∙_, ap, subst}
+use mathlib.Core.List.{List, [], _∷_}
+use mathlib.Core.Bool.{Bool, true, false, _&&_}
+use Prim.Native.Nat.{ℕ, zero, suc, _<_}
 use native.Mathlib.Omega.{arith}
 use lib.Bits.{bitXor, xor-self}
 use lib.Count.{ones, onesIn}
-use lib.Dec.{eqb, leb, ltb}
-use lib.ListN.{length, getD, replicate, take}
+use lib.Dec.{ltb}
+use lib.ListN.{length, getD, take}
 use lib.Seq.{take-length}
 use Rattle.account.proofs.Valid.{Sayable, Valid-world, burst-valid, new-valid, valid-run}
-use Rattle.account.specs.Account.{Apart}
 use Rattle.account.specs.Books.{Station, found}
 use Rattle.account.specs.Line as line
 use Rattle.account.specs.Line.{Burst, Heard-as, On-way, Run, World, begin, leaves, new-world, on-way, then}
 use Rattle.account.specs.Sample.{Comes, Comes-through, one-reader}
-use Rattle.frame.specs.Damage.{Damaged, distance}
+use Rattle.frame.specs.Damage.{distance}
 use Rattle.frame.specs.Laws.{SizeLaw, VerdictLaw}
 use Rattle.frame.specs.declared.Format.{Ghosts}
 use Rattle.rules.specs.Concentrator as co
-use Rattle.rules.specs.Concentrator.{Asking, for-poll, for-reset, for-send}
+use Rattle.rules.specs.Concentrator.{for-poll, for-reset, for-send}
 use Rattle.rules.specs.Reader as rd
-use Rattle.rules.specs.Telegrams.{carried, telegram-of, telegram-read}
+use Rattle.rules.specs.Telegrams.{carried, telegram-read}
 use Rattle.rules.specs.declared.telegram.Telegram.{Telegram}
 use Rattle.rules.specs.declared.telegram.Telegram.the-variants.{Single}
 use Rattle.std.proofs.shelf.Ways.{tells}
 use Rattle.std.specs.declared.option.Option.{Option}
 use Rattle.std.specs.declared.option.Option.the-variants.{Some, None}
-use Rattle.std.specs.declared.result.Result.the-variants.{Ok, Err}
-use Rattle.std.specs.shelf.Lists.{All}
+use Rattle.std.specs.declared.result.Result.the-variants.{Ok}
 
 -- a call for which no octets are handed over but small ones, and a burst heard as it was sent, by its place
 data Move : Type 0 where
@@ -151,11 +149,11 @@ abbrev finish : World
 finish = moves sample start
 
 it-runs : all-allowed sample start ≡ true
-unfolding co.request co.verdict co.link-after rd.hear-telegram rd.take-in rd.give-out rd.repeat
+unfolding co.verdict co.link-after rd.hear-telegram rd.take-in rd.give-out rd.repeat
 it-runs = refl
 
 it-came : Comes (found 5 (finish .stations))
-unfolding co.request co.verdict co.link-after rd.hear-telegram rd.take-in rd.give-out rd.repeat
+unfolding co.verdict co.link-after rd.hear-telegram rd.take-in rd.give-out rd.repeat
 it-came = record { sends = refl; entered = refl; handed = refl; arrived = refl }
 
 pub comes-through : {X : Type 0} (F : Ghosts X) → SizeLaw (F .width) (F .longest) (F .frame) → VerdictLaw (F .frame) (F .verdict) → Comes-through F

@@ -1,8 +1,8 @@
 -- The concentrator, its readers and the line: what holds of all of them, and that each move keeps it.
 use mathlib.Core.Path.{_≡_, refl, sym, _∙_, ap, subst}
-use mathlib.Core.List.{List, [], _∷_, _++_, map}
+use mathlib.Core.List.{List, [], _∷_, _++_}
 use mathlib.Core.Bool.{Bool, true, false, cond, not, _&&_}
-use Prim.Native.Nat.{ℕ, zero, suc, _+_, _-_, _≤_, _<_}
+use Prim.Native.Nat.{ℕ, zero, suc, _-_, _≤_, _<_}
 use native.Mathlib.Omega.{arith}
 use lib.Dec.{eqb}
 use lib.ListN.{length, getD, set}
@@ -10,12 +10,12 @@ use lib.Seq.{getD-set-same, getD-set-other}
 use borrow.Author.Tests.{eqb-true, eqb-false}
 use Rattle.account.proofs.Bursts.{alive, answer-dead, keep, left-dead, left-elsewhere, new-burst, none-left, only-left, request-alive, request-dead, still-none, word, written-dead, written-live}
 use Rattle.account.proofs.Hearing.{Good, hearing}
-use Rattle.account.proofs.Pair.{Carries, Counted, Flying, Live, Meant, Open, Pair, View, Word, alive-back, answer-flies, coming, going, next-is, none-flies, nowhere, open-for, pair-ended, pair-opens, request-flies, shut, verdict-of, verdict-same, view}
-use Rattle.account.proofs.Stations.{Distinct, address-of, all-both, all-changed, all-map, own, own-number, turned-round}
-use Rattle.account.specs.Books.{Station, asked, change, ended, found, newest-send, newest-sent, turned}
-use Rattle.account.specs.Line.{Burst, World, gone, on-way}
+use Rattle.account.proofs.Pair.{Carries, Counted, Flying, Live, Meant, Open, Pair, View, Word, alive-back, answer-flies, coming, going, next-is, none-flies, nowhere, open-for, pair-ended, request-flies, shut, verdict-of, verdict-same, view}
+use Rattle.account.proofs.Stations.{Distinct, address-of, all-both, all-changed, all-map, own-number, turned-round}
+use Rattle.account.specs.Books.{Station, change, ended, found, newest-send, newest-sent, turned}
+use Rattle.account.specs.Line.{Burst, gone, on-way}
 use Rattle.fault.specs.declared.Fault.{Fault}
-use Rattle.rules.specs.Concentrator.{link-after, link-asked, once-more, ready, request-telegram, transmission, verdict}
+use Rattle.rules.specs.Concentrator.{link-after, request-telegram, transmission, verdict}
 use Rattle.rules.specs.Links.{change-link, link-at, unset-link}
 use Rattle.rules.specs.Messages.{within}
 use Rattle.rules.specs.Reader.{Turn, hear-telegram}
@@ -23,12 +23,11 @@ use Rattle.rules.specs.declared.link.Link.{Link}
 use Rattle.rules.specs.declared.records.Ending.{Ending}
 use Rattle.rules.specs.declared.records.Exchange.{Exchange}
 use Rattle.rules.specs.declared.records.Request.{Request}
-use Rattle.rules.specs.declared.telegram.Telegram.{Telegram}
 use Rattle.std.proofs.shelf.Ways.{tells}
 use Rattle.std.specs.declared.option.Option.{Option}
 use Rattle.std.specs.declared.option.Option.the-variants.{Some, None}
 use Rattle.std.specs.declared.result.Result.{Result}
-use Rattle.std.specs.declared.result.Result.the-variants.{Ok, Err}
+use Rattle.std.specs.declared.result.Result.the-variants.{Ok}
 use Rattle.std.specs.shelf.Lists.{All}
 
 abbrev pub Known : ℕ → Type 0

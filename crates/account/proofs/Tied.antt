@@ -1,36 +1,35 @@
 -- The books are those of the queues: what entered is in the inbox or was collected, what arrived is among the arrivals or was
 -- fetched, what was offered waits or was handed out. No invariant of the line is needed for this.
 use mathlib.Core.Path.{_≡_, refl, sym, _∙_, ap, subst}
-use mathlib.Core.List.{List, [], _∷_, _++_, map, map-append, reverse, reverse-append, reverse-cons, append-assoc}
-use mathlib.Core.Bool.{Bool, true, false, cond, not, _&&_}
+use mathlib.Core.List.{List, [], _∷_, _++_, append-nil, map, map-append, reverse, reverse-append, reverse-cons, append-assoc}
+use mathlib.Core.Bool.{Bool, true, false, cond}
 use Prim.Native.Nat.{ℕ, _+_}
 use native.Mathlib.Omega.{arith}
-use lib.Dec.{eqb, leb}
+use lib.Dec.{eqb}
 use lib.ListN.{length, length-map}
-use borrow.Author.Tests.{eqb-true}
-use Rattle.account.proofs.Calls.{Asked, Ends, Offers, Timing, Turns, accepts, asks, closes, declined, doubts, gives, has-none, hears, is-busy, no-turn, not-offered, offers, opened, repeats, resets, says-again, says-so, takes, times, turns}
+use Rattle.account.proofs.Calls.{Asked, Ends, Offers, Timing, Turns, accepts, asks, closes, declined, doubts, gives, has-none, hears, is-busy, offers, opened, repeats, resets, says-again, says-so, takes, times, turns}
 use Rattle.account.proofs.Hearing.{after}
 use Rattle.account.proofs.Invariant.{collect-view}
-use Rattle.account.proofs.Room.{Room, brought-room, room-kept, room-run}
+use Rattle.account.proofs.Room.{room-run}
 use Rattle.account.proofs.Stations.{address-of, all-changed, all-found, turned-round}
-use Rattle.account.specs.Account.{from-station, messages, of-class, offers-handed, same-class}
+use Rattle.account.specs.Account.{from-station, messages, of-class, offers-handed}
 use Rattle.account.specs.Books as books
-use Rattle.account.specs.Books.{Station, Up, arrives, by-class, change, ended, ends-send, fetched, found, marks, oldest-number, turned, waiting}
+use Rattle.account.specs.Books.{Station, arrives, change, ended, ends-send, fetched, found, marks, oldest-number, turned, waiting}
 use Rattle.account.specs.Ledger.{Numbered}
 use Rattle.account.specs.Line as line
 use Rattle.account.specs.Line.{Event, Fitting, Limit, Run, World, answered, begin, concluded, leaves, new-station, new-world, requested, step, then, timed}
 use Rattle.account.specs.declared.books.HandOut.{HandOut}
 use Rattle.account.specs.declared.books.Item.{Item}
-use Rattle.account.specs.declared.books.Offer.{Offer}
 use Rattle.account.specs.declared.books.Sending.{Sending}
 use Rattle.fault.specs.declared.Fault.{Fault}
 use Rattle.frame.specs.declared.Format.{Ghosts}
 use Rattle.queue.specs.Fifo.{full, put-contents, take-contents}
 use Rattle.rules.specs.Concentrator as co
-use Rattle.rules.specs.Concentrator.{Concentrator}
-use Rattle.rules.specs.Queues.{Held}
+use Rattle.rules.proofs.Room.{hear-appends}
+use Rattle.rules.specs.Exchanges.{heard-after}
 use Rattle.rules.specs.Reader as rd
 use Rattle.rules.specs.Reader.{Reader, Turn, class-queue}
+use Rattle.rules.specs.Room.{HearAppends, Roomy, brought, flags-read}
 use Rattle.rules.specs.Telegrams.{telegram-read}
 use Rattle.rules.specs.declared.message.Message.{Message}
 use Rattle.rules.specs.declared.records.Arrival.{Arrival}
@@ -39,8 +38,9 @@ use Rattle.rules.specs.declared.records.Class.the-variants.{First, Second}
 use Rattle.rules.specs.declared.records.Ending.{Ending}
 use Rattle.rules.specs.declared.records.Ending.the-variants.{Done, Confirmed, Busy, Brought, Empty, Unserved, Doubted}
 use Rattle.rules.specs.declared.records.Exchange.{Exchange}
+use Rattle.rules.specs.declared.records.Flags.{Flags}
 use Rattle.rules.specs.declared.records.Mark.{Mark}
-use Rattle.rules.specs.declared.records.Mark.the-variants.{Settled, Doubtful}
+use Rattle.rules.specs.declared.records.Mark.the-variants.{Doubtful}
 use Rattle.rules.specs.declared.records.Request.{Request}
 use Rattle.rules.specs.declared.records.Request.the-variants.{Reset, Status, Send, Poll}
 use Rattle.rules.specs.declared.telegram.Telegram.{Telegram}
@@ -274,67 +274,54 @@ landed-turn n s l (Ok t) has-none p = p
 landed-turn n s l (Ok t) (gives First m ms e) p = p
 landed-turn n s l (Ok t) (gives Second m ms e) p = p
 
--- an ending that brings nothing, and one that brings a message
-abbrev pub Brings : Ending → Type 0
-Brings Done = ⊥
-Brings Confirmed = ⊥
-Brings Busy = ⊥
-Brings (Brought m) = Unit {0}
-Brings Empty = ⊥
-Brings Unserved = ⊥
-Brings Doubted = ⊥
+landed-same : (l : List Arrival) (s : Station) → Landed l s → Landed (l ++ []) s
+landed-same l s h = h ∙ ap (λ y. from-station (address-of s) (reverse y) ++ s .up .fetched) (sym (append-nil l))
 
-module _ (n a : ℕ) (q : Held Arrival) where
-  -- at the station of the exchange, and at another
-  landed-own : (s : Station) (v : Request) (e : Ending) → eqb a (address-of s) ≡ true → (Brings e → full (q .room) (q .records) ≡ false) → Landed (q .records) s
-      → Landed (co.arriving a e q .records) (ended n v e s)
-  landed-own s v Done z r h = h
-  landed-own s v Confirmed z r h = h
-  landed-own s v Busy z r h = h
-  landed-own s v (Brought m) z r h =
-      ap (λ y. m ∷ y) h ∙ sym (from-more (address-of s) (q .records) (record { station = a; message = m }) (s .up .fetched) true z)
-      ∙ ap (λ y. from-station (address-of s) (reverse y) ++ s .up .fetched) (sym (put-free (q .room) (q .records) (record { station = a; message = m }) (r tt)))
-  landed-own s v Empty z r h = h
-  landed-own s v Unserved z r h = h
-  landed-own s v Doubted z r h = h
+-- what an ending brought arrives from the station of the exchange, and from no other
+landed-own : (n a : ℕ) (l k : List Arrival) (s : Station) (v : Request) (e : Ending) → k ≡ l ++ brought a e → eqb a (address-of s) ≡ true → Landed l s → Landed k (ended n v e s)
+landed-own n a l k s v e q z h = arrived e ∙ ap (λ y. from-station (address-of s) (reverse y) ++ s .up .fetched) (sym q)
+  where
+    arrived : (e : Ending) → messages (arrives n e (s .up .arrived)) ≡ from-station (address-of s) (reverse (l ++ brought a e)) ++ s .up .fetched
+    arrived Done = landed-same l s h
+    arrived Confirmed = landed-same l s h
+    arrived Busy = landed-same l s h
+    arrived (Brought m) = ap (λ y. m ∷ y) h ∙ sym (from-more (address-of s) l (record { station = a; message = m }) (s .up .fetched) true z)
+    arrived Empty = landed-same l s h
+    arrived Unserved = landed-same l s h
+    arrived Doubted = landed-same l s h
 
-  landed-other : (s : Station) (e : Ending) → eqb a (address-of s) ≡ false → (Brings e → full (q .room) (q .records) ≡ false) → Landed (q .records) s → Landed (co.arriving a e q .records) s
-  landed-other s Done z r h = h
-  landed-other s Confirmed z r h = h
-  landed-other s Busy z r h = h
-  landed-other s (Brought m) z r h =
-      h ∙ sym (from-more (address-of s) (q .records) (record { station = a; message = m }) (s .up .fetched) false z)
-      ∙ ap (λ y. from-station (address-of s) (reverse y) ++ s .up .fetched) (sym (put-free (q .room) (q .records) (record { station = a; message = m }) (r tt)))
-  landed-other s Empty z r h = h
-  landed-other s Unserved z r h = h
-  landed-other s Doubted z r h = h
+landed-other : (a : ℕ) (l k : List Arrival) (s : Station) (e : Ending) → k ≡ l ++ brought a e → eqb a (address-of s) ≡ false → Landed l s → Landed k s
+landed-other a l k s e q z h = arrived e ∙ ap (λ y. from-station (address-of s) (reverse y) ++ s .up .fetched) (sym q)
+  where
+    arrived : (e : Ending) → messages (s .up .arrived) ≡ from-station (address-of s) (reverse (l ++ brought a e)) ++ s .up .fetched
+    arrived Done = landed-same l s h
+    arrived Confirmed = landed-same l s h
+    arrived Busy = landed-same l s h
+    arrived (Brought m) = h ∙ sym (from-more (address-of s) l (record { station = a; message = m }) (s .up .fetched) false z)
+    arrived Empty = landed-same l s h
+    arrived Unserved = landed-same l s h
+    arrived Doubted = landed-same l s h
 
 module _ (w : World) (b : Books w) where
-  books-ends : (n : ℕ) (x : Exchange) (e : Ending) (f : Rattle.rules.specs.declared.records.Flags.Flags)
-      → (Brings e → full (w .concentrator .arrivals .room) (w .concentrator .arrivals .records) ≡ false) → Books (line.ends n (co.closing x e f (w .concentrator)) w)
-  books-ends n x e f r = record {
-    all = all-changed (Fine (w .concentrator .arrivals .records)) (Fine (co.arriving (x .station) e (w .concentrator .arrivals) .records)) (x .station) (ended n (x .request) e) (w .stations)
-        (λ s z p. (tied-ended s (p .0) n (x .request) e, landed-own n (x .station) (w .concentrator .arrivals) s (x .request) e (turned-round (address-of s) (x .station) true z) r (p .1)))
-        (λ s z p. (p .0, landed-other n (x .station) (w .concentrator .arrivals) s e (turned-round (address-of s) (x .station) false z) r (p .1))) (b .all);
-  }
+  books-ends : (n : ℕ) (x : Exchange) (e : Ending) (f : Flags) → co.closing x e f (w .concentrator) .after .arrivals .records ≡ w .concentrator .arrivals .records ++ brought (x .station) e
+      → Books (line.ends n (co.closing x e f (w .concentrator)) w)
+  books-ends n x e f q =
+      let l = w .concentrator .arrivals .records in
+      let k = co.closing x e f (w .concentrator) .after .arrivals .records in
+      record {
+        all = all-changed (Fine l) (Fine k) (x .station) (ended n (x .request) e) (w .stations)
+            (λ s z p. (tied-ended s (p .0) n (x .request) e, landed-own n (x .station) l k s (x .request) e q (turned-round (address-of s) (x .station) true z) (p .1)))
+            (λ s z p. (p .0, landed-other (x .station) l k s e q (turned-round (address-of s) (x .station) false z) (p .1))) (b .all);
+      }
 
-  books-concluded : Room (w .concentrator) → (n : ℕ) (t : Result Telegram Fault) (r : Result co.Ended Fault) → Ends (w .concentrator) t r → Books (concluded n r w)
-  books-concluded h n t (Err f) i = b
-  books-concluded h n t (Ok y) (closes {t = t′} x e q v) = books-ends n x e (co.flags-of t′) (go e v)
-    where
-      go : (e : Ending) → co.verdict x t′ ≡ Ok e → Brings e → full (w .concentrator .arrivals .room) (w .concentrator .arrivals .records) ≡ false
-      go (Brought m) v z = brought-room (w .concentrator) x t′ m v (room-kept (w .concentrator) h x q)
-      go Done v z = absurd z
-      go Confirmed v z = absurd z
-      go Busy v z = absurd z
-      go Empty v z = absurd z
-      go Unserved v z = absurd z
-      go Doubted v z = absurd z
+  books-concluded : (n : ℕ) (t : Result Telegram Fault) (r : Result co.Ended Fault) → Ends (w .concentrator) t r → HearAppends (flags-read t) r (w .concentrator) (heard-after r (w .concentrator)) → Books (concluded n r w)
+  books-concluded n t (Err f) i h = b
+  books-concluded n t (Ok y) (closes {t = t′} x e q v) h = books-ends n x e (co.flags-of t′) (h .arrivals)
 
   books-timed : (r : Result co.Timed Fault) → Timing (w .concentrator) r → Books (timed r w)
   books-timed (Err f) h = b
   books-timed (Ok y) (repeats x e) = record { all = b .all }
-  books-timed (Ok y) (doubts x e) = books-ends 0 x Doubted co.no-flags (λ z. absurd z)
+  books-timed (Ok y) (doubts x e) = books-ends 0 x Doubted co.no-flags (sym (append-nil (w .concentrator .arrivals .records)))
 
   books-requested : (r : Result co.Sent Fault) → Asked (w .concentrator) r → Books (requested r w)
   books-requested (Err f) h = b
@@ -373,11 +360,12 @@ module _ {X : Type 0} (F : Ghosts X) where
   books-hears w w′ q b short n a heard None e = b
   books-hears w w′ q b short n a heard (Some s) e = books-answered w′ b n a s (ap (found a) q ∙ e) _ (turns (s .reader) short (telegram-read (F .verdict heard)))
 
-  books-step : (e : Event) (w : World) → Room (w .concentrator) → Limit F e w → Books w → Books (step F e w)
+  books-step : (e : Event) (w : World) → Roomy (w .concentrator) → Limit F e w → Books w → Books (step F e w)
   books-step (line.requests short a q) w h lim b = books-requested w b _ (asks (w .concentrator) a short q lim)
   books-step (line.times-out short) w h lim b = books-timed w b _ (times (w .concentrator) short)
   books-step (line.concentrator-hears k x heard) w h lim b =
-      books-concluded (leaves 0 k x w) (record { all = b .all }) h (x .number) _ _ (hears (w .concentrator) (telegram-read (F .verdict heard)))
+      books-concluded (leaves 0 k x w) (record { all = b .all }) (x .number) _ _ (hears (w .concentrator) (telegram-read (F .verdict heard)))
+      (hear-appends (telegram-read (F .verdict heard)) (w .concentrator) h)
   books-step (line.reader-hears short a k x heard) w h lim b =
       books-hears w (leaves a k x w) refl (record { all = b .all }) short (x .number) a heard (found a (w .stations)) refl
   books-step (line.loses e k x) w h lim b = record { all = b .all }
@@ -396,7 +384,7 @@ module _ {X : Type 0} (F : Ghosts X) where
   books-step line.fetches-report w h lim b = books-report w b (w .concentrator .reports .records)
   books-step line.surveys w h lim b = b
 
-  pub books-run : {v w : World} → Run F v w → Room (v .concentrator) → Books v → Books w
+  pub books-run : {v w : World} → Run F v w → Roomy (v .concentrator) → Books v → Books w
   books-run begin h b = b
   books-run (then r e lim) h b = books-step e _ (room-run F r h) lim (books-run r h b)
 

@@ -1,6 +1,6 @@
 -- The theorem of the two ends.
-use mathlib.Core.Path.{_≡_, refl, sym, _∙_, ap, subst}
-use mathlib.Core.List.{List, [], _∷_, map}
+use mathlib.Core.Path.{_≡_, refl, subst}
+use mathlib.Core.List.{List}
 use mathlib.Core.Bool.{Bool, true, false, cond}
 use mathlib.Core.Logic.{_⊎_, inl, inr}
 use Prim.Native.Nat.{ℕ}
@@ -8,26 +8,23 @@ use lib.Dec.{eqb}
 use borrow.Author.Tests.{eqb-true}
 use Rattle.account.proofs.Barred.{nothing-moves}
 use Rattle.account.proofs.Invariant.{Inv, inv-new, inv-run}
-use Rattle.account.proofs.Pair.{Live, Pair, Sync, open-for, send-in, shut, sync-of, view}
-use Rattle.account.proofs.Room.{Room, room-kept, room-run}
-use Rattle.account.proofs.State.{Stands, Stood, open-at, to-case}
+use Rattle.account.proofs.Pair.{Live, Sync, open-for, send-in, shut, sync-of, view}
+use Rattle.account.proofs.Room.{room-run}
+use Rattle.account.proofs.State.{Stands, open-at, to-case}
 use Rattle.account.proofs.States.{handed-states, waiting-states}
 use Rattle.account.proofs.Stations.{address-of, all-found}
 use Rattle.account.proofs.Tied.{Books, Landed, Tied, books-new, books-run}
-use Rattle.account.proofs.Valid.{Valid-world, new-valid, valid-run}
-use Rattle.account.specs.Account.{Account, Apart, Nothing-moved, Open-to, Room-kept, Two-ends-over, Unset, link-to, open-send, sent-by}
+use Rattle.account.proofs.Valid.{new-valid, valid-run}
+use Rattle.account.specs.Account.{Account, Open-to, Two-ends-over, Unset, link-to, open-send, sent-by}
 use Rattle.account.specs.Books.{Station, found}
 use Rattle.account.specs.Ledger.{Requested}
-use Rattle.account.specs.Line.{Burst, Fitting, Run, World, new-world}
+use Rattle.account.specs.Line.{Burst, World}
 use Rattle.frame.specs.Laws.{GuardLaw, VerdictLaw}
 use Rattle.frame.specs.declared.Format.{Ghosts}
 use Rattle.rules.specs.Concentrator.{Concentrator}
-use Rattle.rules.specs.Links.{link-at}
-use Rattle.rules.specs.declared.link.Link.{Link}
 use Rattle.rules.specs.declared.records.Exchange.{Exchange}
 use Rattle.std.specs.declared.option.Option.{Option}
 use Rattle.std.specs.declared.option.Option.the-variants.{Some, None}
-use Rattle.std.specs.shelf.Lists.{All}
 
 -- the send that is open to a reader, as the invariant and as the statement say it
 send-same : (x : Option Exchange) (a : ℕ) → send-in (open-at x a) ≡ open-send x a
@@ -81,7 +78,7 @@ module _ {X : Type 0} (F : Ghosts X) (exact : VerdictLaw (F .frame) (F .verdict)
   two-ends r i j readers apart w run =
       let valid = valid-run F run (new-valid r i j readers apart) in
       let inv = inv-run F exact guarded run (new-valid r i j readers apart) (inv-new r i j readers apart) in
-      let books = books-run F run tt (books-new r i j readers) in (
-        room-kept (w .concentrator) (room-run F run tt),
+      let books = books-run F run refl (books-new r i j readers) in (
+        room-run F run refl,
         λ a s e. (account w inv books a s e, λ later t on f u q. nothing-moves F exact guarded w later valid inv on a s t e f u q),
       )

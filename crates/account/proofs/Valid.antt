@@ -2,26 +2,25 @@
 use mathlib.Core.Path.{_≡_, refl, sym, _∙_, ap, subst}
 use mathlib.Core.List.{List, [], _∷_, _++_, map}
 use mathlib.Core.Bool.{Bool, true, false, cond, _||_}
-use Prim.Native.Nat.{ℕ, zero, suc, _+_, _-_, _*_, _%_, _≤_, _<_}
+use Prim.Native.Nat.{ℕ, zero, suc, _-_, _≤_, _<_}
 use native.Mathlib.Omega.{arith}
-use lib.Dec.{eqb, leb}
+use lib.Dec.{leb}
 use lib.ListN.{length, take, getD, replicate, set}
 use lib.Seq.{take-all, take-append-seam}
-use Rattle.account.proofs.Calls.{Asked, Ends, Offers, Proper, Proper-request, Timing, Turns, accepts, asks, closes, declined, doubts, gives, has-none, hears, is-busy, no-turn, none-there, not-offered, not-read, not-taken, not-timed, offers, opened, repeats, resets, says-again, says-so, takes, times, turns}
-use Rattle.account.proofs.Hearing.{queue-same, with-queue}
-use Rattle.account.proofs.Stations.{address-of, all-append, all-changed, all-found, all-map, all-of}
+use Rattle.account.proofs.Calls.{Asked, Ends, Offers, Proper, Proper-request, Timing, Turns, accepts, asks, closes, declined, doubts, gives, has-none, hears, is-busy, offers, opened, repeats, resets, says-again, says-so, takes, times, turns}
+use Rattle.account.proofs.Stations.{all-append, all-changed, all-found}
 use Rattle.account.specs.Account.{Apart}
-use Rattle.account.specs.Books.{Station, by-class, fetched, found, turned}
+use Rattle.account.specs.Books.{Station, fetched, found, turned}
 use Rattle.account.specs.Books as books
 use Rattle.account.specs.Line as line
 use Rattle.account.specs.Line.{Burst, Event, Fitting, Limit, Run, World, answered, begin, concluded, gone, leaves, new-station, new-world, requested, step, then, timed}
 use Rattle.fault.specs.declared.Fault.{Fault}
 use Rattle.frame.specs.Contents.{Valid, padded}
-use Rattle.frame.specs.Controls.{digit, primary-octet, secondary-octet}
+use Rattle.frame.specs.Controls.{primary-octet, secondary-octet}
 use Rattle.frame.specs.declared.Format.{Ghosts}
 use Rattle.rules.specs.Concentrator as co
 use Rattle.rules.specs.Concentrator.{Concentrator, request-telegram, transmission}
-use Rattle.rules.specs.Functions.{function-code, reply-code}
+use Rattle.rules.specs.Functions.{reply-code}
 use Rattle.rules.specs.Links.{link-at}
 use Rattle.rules.specs.Messages.{message-of, text, within}
 use Rattle.rules.specs.Queues.{Held, holding}

@@ -13,10 +13,11 @@ use Rattle.account.specs.declared.books.Item.{Item}
 use Rattle.account.specs.declared.books.Offer.{Offer}
 use Rattle.account.specs.declared.books.OfferState.the-variants.{Waiting}
 use Rattle.frame.specs.declared.Format.{Ghosts}
-use Rattle.rules.specs.Concentrator.{Concentrator, has-room}
+use Rattle.rules.specs.Concentrator.{Concentrator}
 use Rattle.rules.specs.Links.{link-at}
 use Rattle.rules.specs.Messages.{within}
 use Rattle.rules.specs.Reader.{class-queue}
+use Rattle.rules.specs.Room.{Roomy}
 use Rattle.rules.specs.declared.link.Link.{Link}
 use Rattle.rules.specs.declared.message.Message.{Message}
 use Rattle.rules.specs.declared.records.Arrival.{Arrival}
@@ -37,6 +38,7 @@ messages l = map (λ i. i .message) l
 abbrev pub offers-handed : List HandOut → List Offer
 offers-handed l = map (λ h. h .offer) l
 
+-- whether two classes are one
 abbrev pub same-class : Class → Class → Bool
 same-class First First = true
 same-class First Second = false
@@ -53,13 +55,14 @@ abbrev pub from-station : ℕ → List Arrival → List Message
 from-station a [] = []
 from-station a (m ∷ l) = cond (eqb (m .station) a) (m .message ∷ from-station a l) (from-station a l)
 
--- the message of the send that is open to a station, if one is
+-- the message of a request, if it is a send
 abbrev pub sent-by : Request → Option Message
 sent-by Reset = None
 sent-by Status = None
 sent-by (Send m) = Some m
 sent-by (Poll c) = None
 
+-- the message of the send that is open to a station, if one is
 abbrev pub open-send : Option Exchange → ℕ → Option Message
 open-send None a = None
 open-send (Some x) a = cond (eqb (x .station) a) (sent-by (x .request)) None
@@ -108,22 +111,19 @@ pub record Nothing-moved (s t : Station) : Type 0 where
   pub entered : t .down .entered ≡ s .down .entered
   pub handed : offers-handed (t .up .handed) ≡ offers-handed (s .up .handed)
 
--- the open exchange has a free slot for its report and, on a poll, for its arrival: so none is ever dropped
-abbrev pub Room-kept : Concentrator → Type 0
-Room-kept k = (x : Exchange) → k .exchange ≡ Some x → has-room (x .request) k ≡ true
-
 -- no two readers share an address, and each is 1 to 32
 abbrev pub Apart : List Fitting → Type 0
 Apart [] = Unit {0}
 Apart (f ∷ l) = (within 1 32 (f .address) ≡ true) × All (λ g. eqb (g .address) (f .address) ≡ false) l × Apart l
 
--- The two ends over a format: after every run of a new line, the account of each reader holds; and on every run from there, as long
--- as no more resets of it are done, a link unset at either end lets nothing move.
+-- The two ends over a format. After every run of a new line the open exchange has its free slots, so that no report and no arrival is
+-- ever dropped, and the account of each reader holds. And on every run from there, as long as no more resets of it are done, a link
+-- unset at either end lets nothing move.
 abbrev pub Two-ends-over : {X : Type 0} → Ghosts X → Type 0
 Two-ends-over F =
     (repetitions arrivals reports : ℕ) (readers : List Fitting) → Apart readers →
     (w : World) → Run F (new-world repetitions arrivals reports readers) w →
-    Room-kept (w .concentrator) ×
+    Roomy (w .concentrator) ×
     ((a : ℕ) (s : Station) → found a (w .stations) ≡ Some s →
     Account (w .concentrator) s ×
     ((later : World) (t : Station) → Run F w later → found a (later .stations) ≡ Some t →

@@ -76,6 +76,7 @@ asked-down (Send m) d = record {
 }
 asked-down (Poll c) d = d
 
+-- the station of an accepted request
 abbrev pub asked : Request → Station → Station
 asked v s = record { reader = s .reader; down = asked-down v (s .down); up = s .up }
 
@@ -84,6 +85,7 @@ abbrev pub ends-send : Ending → List Sending → List Sending
 ends-send e [] = []
 ends-send e (s ∷ l) = record { item = s .item; state = Ended (outcome-of e) } ∷ l
 
+-- one reset more, if it ended done
 abbrev pub more-resets : Ending → ℕ → ℕ
 more-resets ending.Done n = n + 1
 more-resets ending.Confirmed n = n
@@ -93,6 +95,7 @@ more-resets ending.Empty n = n
 more-resets ending.Unserved n = n
 more-resets ending.Doubted n = n
 
+-- an ended reset is counted if it was done; an ended send has its outcome
 abbrev pub ended-down : Request → Ending → Down → Down
 ended-down Reset e d = record { sends = d .sends; entered = d .entered; collected = d .collected; resets = more-resets e (d .resets) }
 ended-down Status e d = d
@@ -109,6 +112,7 @@ arrives n ending.Empty l = l
 arrives n ending.Unserved l = l
 arrives n ending.Doubted l = l
 
+-- the station of an exchange that ended so, by an answer of this number
 abbrev pub ended : ℕ → Request → Ending → Station → Station
 ended n v e s = record {
   reader = s .reader;
@@ -121,10 +125,12 @@ abbrev pub newest-sent : List Sending → ℕ
 newest-sent [] = 0
 newest-sent (s ∷ l) = s .item .number
 
+-- 0 where that reader is not on the line
 abbrev pub newest-send : Option Station → ℕ
 newest-send None = 0
 newest-send (Some s) = newest-sent (s .down .sends)
 
+-- the oldest arrival, if there is one, is fetched: the station that it came from has it written down
 abbrev pub fetched : List Arrival → List Station → List Station
 fetched [] l = l
 fetched (m ∷ ms) l = change (m .station) (λ s. record {
@@ -163,6 +169,7 @@ with-handed h u = record { offered = u .offered; waiting1 = u .waiting1; waiting
 abbrev pub offered-up : Class → Item → Up → Up
 offered-up c i u = with-waiting c (waiting c u ++ (i ∷ [])) (record { item = i; class = c } ∷ u .offered) (u .handed) u
 
+-- an offer that was declined leaves the books
 abbrev pub offered : rd.Offered → Station → Station
 offered (rd.declined f) s = s
 offered (rd.accepted c m r) s = record { reader = r; down = s .down; up = offered-up c (record { number = length (s .up .offered) + 1; message = m }) (s .up) }
@@ -172,6 +179,7 @@ abbrev pub collects-one : List Message → List Message → List Message
 collects-one [] l = l
 collects-one (m ∷ ms) l = m ∷ l
 
+-- a collection, accepted or not
 abbrev pub collected : Station → Station
 collected s = record {
   reader = rd.collected (s .reader);
@@ -224,7 +232,7 @@ turned n t s = record {
   up = hands (t .deed) (with-handed (marks (t .mark) (s .up .handed)) (s .up));
 }
 
--- the number of the newest hand-out: a data answer belongs to that, the stored one too
+-- the number of the newest hand-out: a data answer belongs to that, a repeated one too, since each hand-out makes a new stored answer
 abbrev pub newest-hand-out : List HandOut → ℕ
 newest-hand-out [] = 0
 newest-hand-out (h ∷ l) = h .offer .item .number

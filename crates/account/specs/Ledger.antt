@@ -5,7 +5,6 @@ use Prim.Native.Nat.{ℕ, _+_}
 use lib.ListN.{length}
 use Rattle.account.specs.declared.books.HandOut.{HandOut}
 use Rattle.account.specs.declared.books.Item.{Item}
-use Rattle.account.specs.declared.books.Offer.{Offer}
 use Rattle.account.specs.declared.books.OfferState.{OfferState}
 use Rattle.account.specs.declared.books.OfferState.the-variants.{Waiting, Out, Marked}
 use Rattle.account.specs.declared.books.SendState.{SendState}
@@ -41,12 +40,13 @@ offer-fate Out = at-most-once
 offer-fate (Marked Settled) = once
 offer-fate (Marked Doubtful) = at-most-once
 
--- whether an item may come, and whether it may be lacking
+-- whether an item of this fate may have come
 abbrev pub May-come : Fate → Type 0
 May-come once = Unit {0}
 May-come never = ⊥
 May-come at-most-once = Unit {0}
 
+-- whether it may be lacking
 abbrev pub May-lack : Fate → Type 0
 May-lack once = ⊥
 May-lack never = Unit {0}
@@ -83,6 +83,7 @@ Has-ended (Ended outcome.NoData) = ⊥
 Has-ended (Ended outcome.NotServed) = ⊥
 Has-ended (Ended outcome.Doubtful) = Unit {0}
 
+-- every send has ended
 abbrev pub All-ended : List Sending → Type 0
 All-ended l = All (λ s. Has-ended (s .state)) l
 
@@ -98,6 +99,7 @@ Is-marked Waiting = ⊥
 Is-marked Out = ⊥
 Is-marked (Marked m) = Unit {0}
 
+-- every hand-out is marked
 abbrev pub All-marked : List HandOut → Type 0
 All-marked l = All (λ h. Is-marked (h .state)) l
 

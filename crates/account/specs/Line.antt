@@ -36,6 +36,7 @@ pub record World : Type 0 where
 
 -- ## bursts
 
+-- whether a burst is still on the way to an end
 abbrev pub on-way : ℕ → Burst → Bool
 on-way e b = getD (b .ways) e false
 
@@ -47,6 +48,7 @@ gone e b = record { telegram = b .telegram; number = b .number; ways = set (b .w
 abbrev pub lost-everywhere : Burst → Burst
 lost-everywhere b = record { telegram = b .telegram; number = b .number; ways = replicate 33 false }
 
+-- the line with these bursts
 abbrev pub with-bursts : List Burst → World → World
 with-bursts l w = record { concentrator = w .concentrator; stations = w .stations; bursts = l }
 
@@ -60,11 +62,13 @@ writes t n w = with-bursts (w .bursts ++ (record { telegram = t; number = n; way
 
 -- ## the concentrator's calls
 
+-- the frame of the exchange is written, first or again
 abbrev pub transmits : co.Sent → World → World
 transmits x w =
     writes (transmission (x .exchange)) (newest-send (found (x .exchange .station) (w .stations)))
     (record { concentrator = x .after; stations = w .stations; bursts = w .bursts })
 
+-- the exchange has ended, by an answer of this number
 abbrev pub ends : ℕ → co.Ended → World → World
 ends n x w = record {
   concentrator = x .after;
@@ -72,33 +76,37 @@ ends n x w = record {
   bursts = w .bursts;
 }
 
+-- a request, refused or accepted
 abbrev pub requested : Result co.Sent Fault → World → World
 requested (Err f) w = w
 requested (Ok x) w =
     transmits x (record { concentrator = w .concentrator; stations = change (x .exchange .station) (asked (x .exchange .request)) (w .stations); bursts = w .bursts })
 
+-- a time-out: refused, the frame again, or doubt
 abbrev pub timed : Result co.Timed Fault → World → World
 timed (Err f) w = w
 timed (Ok (co.again x)) w = transmits x w
 timed (Ok (co.doubted x)) w = ends 0 x w
 
--- by the number of the burst that was heard
+-- the concentrator heard a burst of this number: refused, or the exchange has ended
 abbrev pub concluded : ℕ → Result co.Ended Fault → World → World
 concluded n (Err f) w = w
 concluded n (Ok x) w = ends n x w
 
+-- the line with this concentrator and these readers
 abbrev pub with-concentrator : Concentrator → List Station → World → World
 with-concentrator k l w = record { concentrator = k; stations = l; bursts = w .bursts }
 
 -- ## a reader's calls
 
--- by the number of the burst that was heard; the answer is written
+-- a reader heard a burst of this number: refused, or it moved and its answer is written
 abbrev pub answered : ℕ → Result Turn Fault → Station → World → World
 answered n (Err f) s w = w
 answered n (Ok t) s w =
     writes (t .answer) (newest-hand-out (turned n t s .up .handed))
     (record { concentrator = w .concentrator; stations = change (s .reader .address) (λ o. turned n t s) (w .stations); bursts = w .bursts })
 
+-- the line with a change of the reader of this address
 abbrev pub changed : ℕ → (Station → Station) → World → World
 changed a f w = record { concentrator = w .concentrator; stations = change a f (w .stations); bursts = w .bursts }
 
@@ -133,6 +141,7 @@ On-way e k b w = (k < length (w .bursts)) × (getD (w .bursts) k b ≡ b) × (on
 abbrev pub Octets : List ℕ → Type 0
 Octets l = All (λ o. o < 256) l
 
+-- what is handed over with a request
 abbrev pub Octets-asked : Asking → Type 0
 Octets-asked for-reset = Unit {0}
 Octets-asked for-status = Unit {0}
@@ -145,6 +154,7 @@ module _ {X : Type 0} (F : Ghosts X) where
   hears-at None short n heard w = w
   hears-at (Some s) short n heard w = answered n (rd.hear short (telegram-read (F .verdict heard)) (s .reader)) s w
 
+  -- what an event does: the ends do what their rules say, and the books are kept
   abbrev pub step : Event → World → World
   step (requests short a q) w = requested (co.request short a q (w .concentrator)) w
   step (times-out short) w = timed (co.time-out short (w .concentrator)) w
@@ -192,6 +202,7 @@ pub record Fitting : Type 0 where
   pub slots2 : ℕ
   pub slots : ℕ
 
+-- a new reader, with empty books
 abbrev pub new-station : Fitting → Station
 new-station f = record {
   reader = rd.new-reader (f .address) (f .slots1) (f .slots2) (f .slots);
@@ -199,6 +210,6 @@ new-station f = record {
   up = record { offered = []; waiting1 = []; waiting2 = []; handed = []; arrived = []; fetched = [] };
 }
 
--- repetitions, slots for arrivals and for reports, and the readers
+-- a new line: repetitions, slots for arrivals and for reports, and the readers; no burst yet
 abbrev pub new-world : ℕ → ℕ → ℕ → List Fitting → World
 new-world r arrivals reports readers = record { concentrator = co.new-concentrator r arrivals reports; stations = map new-station readers; bursts = [] }

@@ -4,11 +4,9 @@ use mathlib.Core.Path.{_≡_}
 use Prim.Native.Nat.{ℕ}
 use Rattle.account.specs.Books.{Station, found}
 use Rattle.account.specs.Line.{Fitting, Run, World, new-world}
-use Rattle.account.specs.declared.books.HandOut.{HandOut}
 use Rattle.account.specs.declared.books.Item.{Item}
 use Rattle.account.specs.declared.books.OfferState.the-variants.{Marked}
 use Rattle.account.specs.declared.books.SendState.the-variants.{Ended}
-use Rattle.account.specs.declared.books.Sending.{Sending}
 use Rattle.frame.specs.declared.Format.{Ghosts}
 use Rattle.rules.specs.Messages.{message-of}
 use Rattle.rules.specs.declared.records.Class.the-variants.{First}
@@ -28,6 +26,7 @@ pub record Came-through (s : Station) : Type 0 where
   pub handed : s .up .handed ≡ record { offer = record { item = first-item 66; class = First }; state = Marked Settled } ∷ []
   pub arrived : s .up .arrived ≡ first-item 66 ∷ []
 
+-- there is such a reader, and its books are these
 abbrev pub Comes : Option Station → Type 0
 Comes None = ⊥
 Comes (Some s) = Came-through s

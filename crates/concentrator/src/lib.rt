@@ -1,5 +1,6 @@
 // The concentrator, the primary station of the link: it asks its readers, one exchange at a time, and keeps what they
 // answer and how each exchange ended.
+ghost use Rattle.account.specs.Account.{Two-ends-over};
 ghost use Rattle.concentrator.specs.View.{view};
 ghost use Rattle.fault.specs.Causes.{fault};
 ghost use Rattle.fault.specs.declared.Cause.the-variants.{ShortBuffer, BadStation};
@@ -19,6 +20,7 @@ ghost use lib.Dec.{ltb};
 ghost use lib.ListN.{length};
 ghost use mathlib.Core.Bool.{not};
 ghost use mathlib.Core.Path.{_≡_};
+use account::two_ends_hold;
 use fault::Cause;
 use fault::Fault;
 use frame::Format;
@@ -95,11 +97,14 @@ pub struct Concentrator<P, Q, F> {
 }
 
 impl<P: Slots<Item = Arrival>, Q: Slots<Item = Report>, F: Format> Concentrator<P, Q, F> {
-    // A new concentrator over the slots: every link unset, no exchange open, both queues empty.
+    // A new concentrator over the slots: every link unset, no exchange open, both queues empty. On a line of it and
+    // readers, all begun new, the account of the two ends then holds after every run, as each call keeps to the rules.
     pub fn over(repetitions: u8, arrivals: P, reports: Q) -> Concentrator<P, Q, F>
         ensures begun { λ r. ⌜ view (P·Slots .items) (Q·Slots .items) r ≡ new-concentrator repetitions (length (P·Slots .items arrivals)) (length (Q·Slots .items reports)) ⌝ }
         ensures roomy { λ r. ⌜ Roomy (view (P·Slots .items) (Q·Slots .items) r) ⌝ }
+        ensures accounted { λ _. ⌜ Two-ends-over F·Format ⌝ }
     {
+        two_ends_hold::<F>();
         Concentrator {
             repetitions,
             links: LinkTable::new(),

@@ -176,6 +176,14 @@ pub struct Arrival {
     pub message: Message,
 }
 
+impl Arrival {
+    // To fill slots with.
+    pub const BLANK: Arrival = Arrival {
+        station: 0,
+        message: Message::BLANK,
+    };
+}
+
 // ACD and DFC of an answer, both false where none was heard.
 #[derive(Clone, Copy, PartialEq, Eq, Debug)]
 pub struct Flags {
@@ -191,6 +199,20 @@ pub struct Report {
     pub outcome: Outcome,
     pub flags: Flags,
     pub transmissions: u16,
+}
+
+impl Report {
+    // To fill slots with.
+    pub const BLANK: Report = Report {
+        station: 0,
+        service: Service::Reset,
+        outcome: Outcome::Done,
+        flags: Flags {
+            acd: false,
+            dfc: false,
+        },
+        transmissions: 0,
+    };
 }
 
 // The exchange that is open at the concentrator: its request, with the frame count bit of its frame, and how often

@@ -6,7 +6,11 @@ use fault::LayerDisplay;
 use frame::Content;
 use frame::UserOctets;
 use rules::message::Message;
+use rules::records::Arrival;
 use rules::records::Mark;
+use rules::records::Outcome;
+use rules::records::Report;
+use rules::records::Service;
 use std::alloc::AllocError;
 use std::alloc::Global;
 use std::fmt;
@@ -84,6 +88,49 @@ impl Answer {
                 self.octets(&user[0..count])
             }
         }
+    }
+
+    pub fn outcome(&mut self, outcome: Outcome) -> fmt::Result {
+        match outcome {
+            Outcome::Done => self.say("done"),
+            Outcome::Confirmed => self.say("confirmed"),
+            Outcome::Busy => self.say("busy"),
+            Outcome::Data => self.say("data"),
+            Outcome::NoData => self.say("none"),
+            Outcome::NotServed => self.say("not served"),
+            Outcome::Doubtful => self.say("doubtful"),
+        }
+    }
+
+    pub fn report(&mut self, report: Report) -> fmt::Result {
+        let station = report.station;
+        let service = match report.service {
+            Service::Reset => "reset",
+            Service::Status => "status",
+            Service::Send => "send",
+            Service::Poll => "poll",
+        };
+        write!(self.text, "report {station} {service} ")?;
+        self.outcome(report.outcome)?;
+        let acd = u8::from(report.flags.acd);
+        let dfc = u8::from(report.flags.dfc);
+        let sent = report.transmissions;
+        write!(self.text, " acd {acd} dfc {dfc} sent {sent}")
+    }
+
+    pub fn arrival(&mut self, arrival: Arrival) -> fmt::Result {
+        let station = arrival.station;
+        write!(self.text, "arrival {station}:")?;
+        self.octets(arrival.message.octets())
+    }
+
+    // The addresses at the front of a buffer.
+    pub fn survey(&mut self, buffer: &[u8], count: usize) -> fmt::Result {
+        self.say("set:")?;
+        for address in buffer.iter().take(count) {
+            write!(self.text, " {address}")?;
+        }
+        Ok(())
     }
 
     pub fn error(&mut self, line: u64, mistake: Mistake<'_>) -> fmt::Result {

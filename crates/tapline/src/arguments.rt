@@ -75,6 +75,15 @@ impl<'a> Arguments<'a> {
         }
     }
 
+    // The next word as a number, or this one if there is no word left.
+    pub fn number_or(&mut self, otherwise: u16) -> Result<u16, Mistake<'a>> {
+        let mut rest = self.words;
+        match rest.next() {
+            Some(_) => self.number(),
+            None => Ok(otherwise),
+        }
+    }
+
     pub fn octet(&mut self) -> Result<u8, Mistake<'a>> {
         let word = self.word()?;
         parse_unit(word)

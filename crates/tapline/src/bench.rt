@@ -37,7 +37,7 @@ pub fn check_reader(plan: ReaderPlan) -> Result<(), Fault> {
 }
 
 // A station or class as the library has it: all that are over an octet are over every one that there is.
-fn octet_of(number: u16) -> u8 {
+pub fn octet_of(number: u16) -> u8 {
     number.min(255) as u8
 }
 

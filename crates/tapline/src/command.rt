@@ -8,6 +8,9 @@ use console::WordsIterator;
 use std::alloc::Global;
 use std::str::from_utf8;
 
+// The places of a survey that has room for every station.
+const MOST_STATIONS: u16 = 32;
+
 #[derive(Clone, Copy)]
 pub enum FormatName {
     Ft12,
@@ -32,6 +35,8 @@ pub enum Command {
     Read(Vec<u16>),
     BenchReader(ReaderPlan),
     Reader(ReaderCall),
+    BenchConcentrator(ConcentratorPlan),
+    Concentrator(ConcentratorCall),
 }
 
 // A reader to be made: its address, and the slots of its queues.
@@ -52,6 +57,29 @@ pub enum ReaderCall {
     Restart,
 }
 
+// A concentrator to be made: its repetitions, and the slots of its queues.
+#[derive(Clone, Copy)]
+pub struct ConcentratorPlan {
+    pub repetitions: u16,
+    pub reports: u16,
+    pub arrivals: u16,
+}
+
+// What is asked of a concentrator.
+#[derive(Drop)]
+pub enum ConcentratorCall {
+    Reset(u16),
+    Status(u16),
+    Send { station: u16, octets: Vec<u8> },
+    Poll { station: u16, class: u16 },
+    TimeOut,
+    Hear(Vec<u16>),
+    FetchReport,
+    FetchArrival,
+    // with so many places for addresses
+    Survey(u16),
+}
+
 impl Command {
     // The command of a line; none if the line is empty but for blanks and a comment.
     pub fn parse<'a>(heap: Global, line: &'a [u8]) -> Result<Option<Command>, Mistake<'a>> {
@@ -69,6 +97,10 @@ impl Command {
             "read" => Command::Read(Arguments::new("read", words).list(heap)?),
             "bench" => parse_bench(Arguments::new("bench", words))?,
             "r" => Command::Reader(parse_reader_call(heap, Arguments::new("r", words))?),
+            "c" => {
+                let arguments = Arguments::new("c", words);
+                Command::Concentrator(parse_concentrator_call(heap, arguments)?)
+            }
             _ => return Err(Mistake::UnknownCommand),
         };
         Ok(Some(command))
@@ -120,6 +152,7 @@ fn parse_write<'a>(heap: Global, mut arguments: Arguments<'a>) -> Result<Command
 fn parse_bench<'a>(mut arguments: Arguments<'a>) -> Result<Command, Mistake<'a>> {
     match arguments.keyword()? {
         "reader" => Ok(Command::BenchReader(parse_reader_plan(arguments)?)),
+        "concentrator" => Ok(Command::BenchConcentrator(parse_concentrator_plan(arguments)?)),
         _ => Err(arguments.usage()),
     }
 }
@@ -154,6 +187,52 @@ fn parse_reader_call<'a>(
             arguments.end()?;
             Ok(ReaderCall::Restart)
         }
+        _ => Err(arguments.usage()),
+    }
+}
+
+fn parse_concentrator_plan<'a>(
+    mut arguments: Arguments<'a>,
+) -> Result<ConcentratorPlan, Mistake<'a>> {
+    let plan = ConcentratorPlan {
+        repetitions: arguments.number()?,
+        reports: arguments.number()?,
+        arrivals: arguments.number()?,
+    };
+    arguments.end()?;
+    Ok(plan)
+}
+
+fn parse_concentrator_call<'a>(
+    heap: Global,
+    mut arguments: Arguments<'a>,
+) -> Result<ConcentratorCall, Mistake<'a>> {
+    let call = match arguments.keyword()? {
+        "reset" => ConcentratorCall::Reset(arguments.number()?),
+        "status" => ConcentratorCall::Status(arguments.number()?),
+        "send" => {
+            let station = arguments.number()?;
+            let octets = arguments.list(heap)?;
+            return Ok(ConcentratorCall::Send { station, octets });
+        }
+        "poll" => ConcentratorCall::Poll {
+            station: arguments.number()?,
+            class: arguments.number()?,
+        },
+        "timeout" => ConcentratorCall::TimeOut,
+        "hear" => return Ok(ConcentratorCall::Hear(arguments.list(heap)?)),
+        "fetch" => parse_fetch(&mut arguments)?,
+        "survey" => ConcentratorCall::Survey(arguments.number_or(MOST_STATIONS)?),
+        _ => return Err(arguments.usage()),
+    };
+    arguments.end()?;
+    Ok(call)
+}
+
+fn parse_fetch<'a>(arguments: &mut Arguments<'a>) -> Result<ConcentratorCall, Mistake<'a>> {
+    match arguments.keyword()? {
+        "report" => Ok(ConcentratorCall::FetchReport),
+        "arrival" => Ok(ConcentratorCall::FetchArrival),
         _ => Err(arguments.usage()),
     }
 }

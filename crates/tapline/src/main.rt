@@ -3,6 +3,7 @@
 mod answer;
 mod arguments;
 mod bench;
+mod bench_concentrator;
 mod command;
 mod frames;
 mod input;

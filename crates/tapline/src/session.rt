@@ -2,7 +2,11 @@
 use crate::answer::Answer;
 use crate::bench::BenchReader;
 use crate::bench::check_reader;
+use crate::bench_concentrator::BenchConcentrator;
+use crate::bench_concentrator::check_concentrator;
 use crate::command::Command;
+use crate::command::ConcentratorCall;
+use crate::command::ConcentratorPlan;
 use crate::command::FormatName;
 use crate::command::ReaderCall;
 use crate::command::ReaderPlan;
@@ -32,6 +36,7 @@ pub struct Session {
     buffer: Vec<u16>,
     answer: Answer,
     reader: Option<BenchReader>,
+    concentrator: Option<BenchConcentrator>,
 }
 
 impl Session {
@@ -42,6 +47,7 @@ impl Session {
             buffer: vec![in heap; 0; longest(FormatName::Ft12)]?,
             answer: Answer::new(heap)?,
             reader: None,
+            concentrator: None,
         })
     }
 
@@ -99,6 +105,8 @@ impl Session {
             Command::Read(burst) => self.read(burst.as_slice())?,
             Command::BenchReader(plan) => self.put_reader(plan)?,
             Command::Reader(call) => self.call_reader(call)?,
+            Command::BenchConcentrator(plan) => self.put_concentrator(plan)?,
+            Command::Concentrator(call) => self.call_concentrator(call)?,
         }
         self.answer.say("\n")?;
         Ok(())
@@ -162,6 +170,35 @@ impl Session {
                 Ok(())
             }
             None => Err(Mistake::NoBench("reader")),
+        }
+    }
+}
+
+// The bench of a concentrator.
+impl Session {
+    fn put_concentrator<'a>(&mut self, plan: ConcentratorPlan) -> Result<(), Mistake<'a>> {
+        match check_concentrator(plan) {
+            Ok(()) => {
+                let made = BenchConcentrator::new(self.heap, self.format, plan)?;
+                self.concentrator = Some(made);
+                self.answer.say("bench concentrator")?;
+            }
+            Err(fault) => self.answer.refused(fault)?,
+        }
+        Ok(())
+    }
+
+    fn call_concentrator<'a>(&mut self, call: ConcentratorCall) -> Result<(), Mistake<'a>> {
+        match &mut self.concentrator {
+            Some(concentrator) => {
+                concentrator.call(
+                    self.heap,
+                    call,
+                    self.buffer.as_mut_slice(),
+                    &mut self.answer,
+                )
+            }
+            None => Err(Mistake::NoBench("concentrator")),
         }
     }
 }
