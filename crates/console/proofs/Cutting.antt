@@ -60,11 +60,12 @@ one-word text e = ap not-empty (first-part text) ∙ joined (run text) (behind t
 absurd : {A : Type 0} {x y : A} (n : ℕ) → eqb (suc n) 0 ≡ true → x ≡ y
 absurd n e = let z : suc n ≡ 0 = true-eqb (suc n) 0 (sym e) in let f : ⊥ = omega arith in elim f [ ]
 
-no-word : (text : List ℕ) → eqb (length (first-word text)) 0 ≡ true → words-of text ≡ []
-no-word [] e = refl
-no-word (byte ∷ bytes) e =
+-- without a first word there are only blanks
+only-blanks : (text : List ℕ) → eqb (length (first-word text)) 0 ≡ true → unblanked text ≡ []
+only-blanks [] e = refl
+only-blanks (byte ∷ bytes) e =
     elim (cases-bool (blank byte)) [
-      | inl b ↦ simp b (no-word bytes (simp (b, one-add) at e))
+      | inl b ↦ simp (b, one-add) (only-blanks bytes (simp (b, one-add) at e))
       | inr b ↦ absurd _ (simp (b, one-add) at e)
     ]
 
@@ -78,5 +79,12 @@ next-word text w rest p q e =
     let some : eqb (length (first-word text)) 0 ≡ false = ap (λ l. eqb (length l) 0) (sym p) ∙ sym e in
     sym (no-blanks text) ∙ one-word (unblanked text) some ∙ cc
 
-pub last-word : (text w : List ℕ) → w ≡ first-word text → true ≡ eqb (length w) 0 → words-of text ≡ []
-last-word text w p e = no-word text (ap (λ l. eqb (length l) 0) (sym p) ∙ sym e)
+pub last-word :
+    (text w rest : List ℕ) →
+    w ≡ first-word text →
+    rest ≡ after-word text →
+    true ≡ eqb (length w) 0 →
+    (words-of text ≡ []) × (rest ≡ [])
+last-word text w rest p q e =
+    let none : unblanked text ≡ [] = only-blanks text (ap (λ l. eqb (length l) 0) (sym p) ∙ sym e) in
+    (sym (no-blanks text) ∙ ap words-of none, q ∙ ap behind none)

@@ -67,7 +67,8 @@ pub impl<'a> Iterator for Words<'a> as WordsIterator {
 
     ghost left = { λ w. length (now (w .rest)) };
 
-    ghost steps = { λ w r v. BySome r (words-of (now (w .rest)) ≡ []) (λ x. words-of (now (w .rest)) ≡ now x ∷ words-of (now (v .rest))) };
+    // the words to come before a call are its word and those to come after it; with none to come, none comes after
+    ghost steps = { λ w r v. BySome r ((words-of (now (w .rest)) ≡ []) × (now (v .rest) ≡ [])) (λ x. words-of (now (w .rest)) ≡ now x ∷ words-of (now (v .rest))) };
 
     fn next(&mut self) -> Option<&'a [u8]> {
         let (word, rest) = cut_word(self.rest);

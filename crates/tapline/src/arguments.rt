@@ -6,6 +6,7 @@ use console::Radix;
 use console::Words;
 use console::WordsIterator;
 use console::parse_number;
+use frame::Control;
 use std::alloc::Global;
 use std::str::from_utf8;
 
@@ -87,6 +88,11 @@ impl<'a> Arguments<'a> {
     pub fn octet(&mut self) -> Result<u8, Mistake<'a>> {
         let word = self.word()?;
         parse_unit(word)
+    }
+
+    pub fn control(&mut self) -> Result<Control, Mistake<'a>> {
+        let octet = self.octet()?;
+        Ok(Control { octet })
     }
 
     pub fn end(&mut self) -> Result<(), Mistake<'a>> {

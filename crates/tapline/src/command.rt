@@ -5,6 +5,8 @@ use crate::arguments::SymbolUnit;
 use crate::mistake::Mistake;
 use console::Words;
 use console::WordsIterator;
+use frame::Content;
+use frame::MOST_OCTETS;
 use std::alloc::Global;
 use std::str::from_utf8;
 
@@ -22,16 +24,7 @@ pub enum FormatName {
 pub enum Command {
     Format(FormatName),
     Buffer(u16),
-    WriteSingle,
-    WriteFixed {
-        control: u8,
-        address: u8,
-    },
-    WriteVariable {
-        control: u8,
-        address: u8,
-        octets: Vec<u8>,
-    },
+    Write { content: Content, octets: Vec<u8> },
     Read(Vec<u16>),
     BenchReader(ReaderPlan),
     Reader(ReaderCall),
@@ -127,26 +120,43 @@ fn parse_write<'a>(heap: Global, mut arguments: Arguments<'a>) -> Result<Command
     match arguments.keyword()? {
         "single" => {
             arguments.end()?;
-            Ok(Command::WriteSingle)
+            let octets = Vec::new(heap);
+            Ok(Command::Write {
+                content: Content::Single,
+                octets,
+            })
         }
         "fixed" => {
-            let control = arguments.octet()?;
+            let control = arguments.control()?;
             let address = arguments.octet()?;
             arguments.end()?;
-            Ok(Command::WriteFixed { control, address })
+            let octets = Vec::new(heap);
+            Ok(Command::Write {
+                content: Content::Fixed { control, address },
+                octets,
+            })
         }
         "variable" => {
-            let control = arguments.octet()?;
+            let control = arguments.control()?;
             let address = arguments.octet()?;
             let octets = arguments.list(heap)?;
-            Ok(Command::WriteVariable {
-                control,
-                address,
+            let count = content_count(octets.as_slice());
+            Ok(Command::Write {
+                content: Content::Variable {
+                    control,
+                    address,
+                    count,
+                },
                 octets,
             })
         }
         _ => Err(arguments.usage()),
     }
+}
+
+// How many octets a content has; of more than 64, the least number that no content may have.
+fn content_count(octets: &[u8]) -> u8 {
+    octets.len().min(MOST_OCTETS + 1) as u8
 }
 
 fn parse_bench<'a>(mut arguments: Arguments<'a>) -> Result<Command, Mistake<'a>> {

@@ -16,7 +16,6 @@ use crate::mistake::Mistake;
 use crate::mistake::MistakeFromAllocError;
 use crate::mistake::MistakeFromFmtError;
 use frame::Content;
-use frame::Control;
 use frame::Format;
 use frame::MOST_OCTETS;
 use frame::fill_record;
@@ -79,29 +78,7 @@ impl Session {
         match command {
             Command::Format(format) => self.set_format(format)?,
             Command::Buffer(length) => self.set_buffer(length)?,
-            Command::WriteSingle => self.write(Content::Single, &[])?,
-            Command::WriteFixed { control, address } => {
-                self.write(
-                    Content::Fixed {
-                        control: Control { octet: control },
-                        address,
-                    },
-                    &[],
-                )?
-            }
-            Command::WriteVariable {
-                control,
-                address,
-                octets,
-            } => {
-                let count = octets.len().min(MOST_OCTETS + 1) as u8;
-                let content = Content::Variable {
-                    control: Control { octet: control },
-                    address,
-                    count,
-                };
-                self.write(content, octets.as_slice())?
-            }
+            Command::Write { content, octets } => self.write(content, octets.as_slice())?,
             Command::Read(burst) => self.read(burst.as_slice())?,
             Command::BenchReader(plan) => self.put_reader(plan)?,
             Command::Reader(call) => self.call_reader(call)?,

@@ -7,7 +7,7 @@ use Rattle.console.proofs.words.WordsIterator.next.Needs as need
 pub returns-then-is-empty : need.returns-then-is-empty
 returns-then-is-empty c =
     record {
-      steps = last-word (c .args .self .now .rest .now) _ (c .cut-word .ensures .word) (c .if-is-empty .ensures tt);
+      steps = last-word (c .args .self .now .rest .now) _ _ (c .cut-word .ensures .word) (c .cut-word .ensures .rest) (c .if-is-empty .ensures tt);
       goes = search needs;
     }
 
