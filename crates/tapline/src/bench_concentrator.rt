@@ -4,10 +4,8 @@ use crate::bench::octet_of;
 use crate::command::ConcentratorCall;
 use crate::command::ConcentratorPlan;
 use crate::command::FormatName;
+use crate::command::Wish;
 use crate::frames::symbol_digits;
-use crate::mistake::Mistake;
-use crate::mistake::MistakeFromAllocError;
-use crate::mistake::MistakeFromFmtError;
 use concentrator::Concentrator;
 use fault::Fault;
 use frame::Format;
@@ -21,6 +19,9 @@ use rules::records::Report;
 use std::alloc::AllocError;
 use std::alloc::Global;
 use std::fmt;
+
+// The places that a survey of every station takes.
+const PLACES: usize = 32;
 
 // A concentrator whose queues lie on the heap.
 type HeapConcentrator<F> = Concentrator<Vec<Arrival>, Vec<Report>, F>;
@@ -61,67 +62,66 @@ impl BenchConcentrator {
         }
     }
 
-    pub fn call<'a>(
+    pub fn call(
         &mut self,
-        heap: Global,
         call: ConcentratorCall,
         buffer: &mut [u16],
         answer: &mut Answer,
-    ) -> Result<(), Mistake<'a>> {
+    ) -> fmt::Result {
         match self {
             BenchConcentrator::Ft12(concentrator) => {
-                call_concentrator(heap, concentrator, call, buffer, answer)
+                call_concentrator(concentrator, call, buffer, answer)
             }
             BenchConcentrator::Ft3(concentrator) => {
-                call_concentrator(heap, concentrator, call, buffer, answer)
+                call_concentrator(concentrator, call, buffer, answer)
             }
         }
     }
 }
 
-fn call_concentrator<'a, F: Format>(
-    heap: Global,
+fn call_concentrator<F: Format>(
     concentrator: &mut HeapConcentrator<F>,
     call: ConcentratorCall,
     buffer: &mut [u16],
     answer: &mut Answer,
-) -> Result<(), Mistake<'a>> {
+) -> fmt::Result {
     match call {
-        ConcentratorCall::Reset(station) => {
-            let sent = concentrator.reset(octet_of(station), buffer);
-            answer_sent::<F>(sent, buffer, answer)?;
-        }
-        ConcentratorCall::Status(station) => {
-            let sent = concentrator.status(octet_of(station), buffer);
-            answer_sent::<F>(sent, buffer, answer)?;
-        }
-        ConcentratorCall::Send { station, octets } => {
-            let sent = concentrator.send(octet_of(station), octets.as_slice(), buffer);
-            answer_sent::<F>(sent, buffer, answer)?;
-        }
-        ConcentratorCall::Poll { station, class } => {
-            let sent = concentrator.poll(octet_of(station), octet_of(class), buffer);
-            answer_sent::<F>(sent, buffer, answer)?;
+        ConcentratorCall::Request { station, wish } => {
+            let sent = request(concentrator, octet_of(station), wish, buffer);
+            answer_sent::<F>(sent, buffer, answer)
         }
         ConcentratorCall::TimeOut => {
             let sent = concentrator.time_out(buffer);
-            answer_sent::<F>(sent, buffer, answer)?;
+            answer_sent::<F>(sent, buffer, answer)
         }
         ConcentratorCall::Hear(burst) => match concentrator.hear(burst.as_slice()) {
-            Ok(outcome) => answer.outcome(outcome)?,
-            Err(fault) => answer.refused(fault)?,
+            Ok(outcome) => answer.outcome(outcome),
+            Err(fault) => answer.refused(fault),
         },
         ConcentratorCall::FetchReport => match concentrator.fetch_report() {
-            Ok(report) => answer.report(report)?,
-            Err(fault) => answer.refused(fault)?,
+            Ok(report) => answer.report(report),
+            Err(fault) => answer.refused(fault),
         },
         ConcentratorCall::FetchArrival => match concentrator.fetch_arrival() {
-            Ok(arrival) => answer.arrival(arrival)?,
-            Err(fault) => answer.refused(fault)?,
+            Ok(arrival) => answer.arrival(arrival),
+            Err(fault) => answer.refused(fault),
         },
-        ConcentratorCall::Survey(places) => survey(heap, concentrator, places, answer)?,
+        ConcentratorCall::Survey(places) => survey(concentrator, places, answer),
     }
-    Ok(())
+}
+
+fn request<F: Format>(
+    concentrator: &mut HeapConcentrator<F>,
+    station: u8,
+    wish: Wish,
+    buffer: &mut [u16],
+) -> Result<usize, Fault> {
+    match wish {
+        Wish::Reset => concentrator.reset(station, buffer),
+        Wish::Status => concentrator.status(station, buffer),
+        Wish::Send(octets) => concentrator.send(station, octets.as_slice(), buffer),
+        Wish::Poll(class) => concentrator.poll(station, octet_of(class), buffer),
+    }
 }
 
 // The frame of a request or a repetition; at the last time-out there is none.
@@ -137,16 +137,16 @@ fn answer_sent<F: Format>(
     }
 }
 
-fn survey<'a, F: Format>(
-    heap: Global,
+// A survey with so many places; more than there are stations are as good as that many.
+fn survey<F: Format>(
     concentrator: &HeapConcentrator<F>,
     places: u16,
     answer: &mut Answer,
-) -> Result<(), Mistake<'a>> {
-    let mut addresses = vec![in heap; 0u8; usize::from(places)]?;
-    match concentrator.survey(addresses.as_mut_slice()) {
-        Ok(count) => answer.survey(addresses.as_slice(), count)?,
-        Err(fault) => answer.refused(fault)?,
+) -> fmt::Result {
+    let mut addresses = [0u8; PLACES];
+    let places = usize::from(places).min(PLACES);
+    match concentrator.survey(&mut addresses[0..places]) {
+        Ok(count) => answer.survey(&addresses, count),
+        Err(fault) => answer.refused(fault),
     }
-    Ok(())
 }

@@ -61,16 +61,22 @@ pub struct ConcentratorPlan {
 // What is asked of a concentrator.
 #[derive(Drop)]
 pub enum ConcentratorCall {
-    Reset(u16),
-    Status(u16),
-    Send { station: u16, octets: Vec<u8> },
-    Poll { station: u16, class: u16 },
+    Request { station: u16, wish: Wish },
     TimeOut,
     Hear(Vec<u16>),
     FetchReport,
     FetchArrival,
     // with so many places for addresses
     Survey(u16),
+}
+
+// What a request asks of a station; a poll is of a class.
+#[derive(Drop)]
+pub enum Wish {
+    Reset,
+    Status,
+    Send(Vec<u8>),
+    Poll(u16),
 }
 
 impl Command {
@@ -217,32 +223,52 @@ fn parse_concentrator_call<'a>(
     heap: Global,
     mut arguments: Arguments<'a>,
 ) -> Result<ConcentratorCall, Mistake<'a>> {
-    let call = match arguments.keyword()? {
-        "reset" => ConcentratorCall::Reset(arguments.number()?),
-        "status" => ConcentratorCall::Status(arguments.number()?),
+    match arguments.keyword()? {
+        "reset" => parse_request(arguments, Wish::Reset),
+        "status" => parse_request(arguments, Wish::Status),
         "send" => {
             let station = arguments.number()?;
-            let octets = arguments.list(heap)?;
-            return Ok(ConcentratorCall::Send { station, octets });
+            let wish = Wish::Send(arguments.list(heap)?);
+            Ok(ConcentratorCall::Request { station, wish })
         }
-        "poll" => ConcentratorCall::Poll {
-            station: arguments.number()?,
-            class: arguments.number()?,
-        },
-        "timeout" => ConcentratorCall::TimeOut,
-        "hear" => return Ok(ConcentratorCall::Hear(arguments.list(heap)?)),
-        "fetch" => parse_fetch(&mut arguments)?,
-        "survey" => ConcentratorCall::Survey(arguments.number_or(MOST_STATIONS)?),
+        "poll" => parse_poll(arguments),
+        "timeout" => {
+            arguments.end()?;
+            Ok(ConcentratorCall::TimeOut)
+        }
+        "hear" => Ok(ConcentratorCall::Hear(arguments.list(heap)?)),
+        "fetch" => parse_fetch(arguments),
+        "survey" => {
+            let places = arguments.number_or(MOST_STATIONS)?;
+            arguments.end()?;
+            Ok(ConcentratorCall::Survey(places))
+        }
+        _ => Err(arguments.usage()),
+    }
+}
+
+fn parse_request<'a>(
+    mut arguments: Arguments<'a>,
+    wish: Wish,
+) -> Result<ConcentratorCall, Mistake<'a>> {
+    let station = arguments.number()?;
+    arguments.end()?;
+    Ok(ConcentratorCall::Request { station, wish })
+}
+
+fn parse_poll<'a>(mut arguments: Arguments<'a>) -> Result<ConcentratorCall, Mistake<'a>> {
+    let station = arguments.number()?;
+    let wish = Wish::Poll(arguments.number()?);
+    arguments.end()?;
+    Ok(ConcentratorCall::Request { station, wish })
+}
+
+fn parse_fetch<'a>(mut arguments: Arguments<'a>) -> Result<ConcentratorCall, Mistake<'a>> {
+    let call = match arguments.keyword()? {
+        "report" => ConcentratorCall::FetchReport,
+        "arrival" => ConcentratorCall::FetchArrival,
         _ => return Err(arguments.usage()),
     };
     arguments.end()?;
     Ok(call)
-}
-
-fn parse_fetch<'a>(arguments: &mut Arguments<'a>) -> Result<ConcentratorCall, Mistake<'a>> {
-    match arguments.keyword()? {
-        "report" => Ok(ConcentratorCall::FetchReport),
-        "arrival" => Ok(ConcentratorCall::FetchArrival),
-        _ => Err(arguments.usage()),
-    }
 }

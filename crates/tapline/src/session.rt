@@ -168,12 +168,8 @@ impl Session {
     fn call_concentrator<'a>(&mut self, call: ConcentratorCall) -> Result<(), Mistake<'a>> {
         match &mut self.concentrator {
             Some(concentrator) => {
-                concentrator.call(
-                    self.heap,
-                    call,
-                    self.buffer.as_mut_slice(),
-                    &mut self.answer,
-                )
+                concentrator.call(call, self.buffer.as_mut_slice(), &mut self.answer)?;
+                Ok(())
             }
             None => Err(Mistake::NoBench("concentrator")),
         }
