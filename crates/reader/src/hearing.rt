@@ -1,7 +1,7 @@
 // What a reader does with a burst that it hears.
 ghost use Rattle.frame.specs.Controls.{bit, code-of};
 ghost use Rattle.queue.specs.Fifo.{take-answer, take-contents};
-ghost use Rattle.reader.specs.Hearing.{heard-answer, heard-buffer, hearing, response};
+ghost use Rattle.reader.specs.Hearing.{Follows, heard-answer, heard-buffer, hearing, response};
 ghost use Rattle.reader.specs.View.{view};
 ghost use Rattle.rules.specs.Functions.{function-of};
 ghost use Rattle.rules.specs.Queues.{holding};
@@ -79,9 +79,7 @@ impl<S: Slots<Item = Message>, F: Format> Reader<S, F> {
 
     // Single comes from a reader.
     fn hear_telegram(&mut self, telegram: Telegram, marked: &mut Message) -> Result<Response, Fault>
-        ensures answer { λ r. ⌜ r ≡ response (hear-telegram telegram (view items (now (self .entry)))) ⌝ }
-        ensures moved { λ _. ⌜ view items (now (self .exit)) ≡ hear-after (hear-telegram telegram (view items (now (self .entry)))) (view items (now (self .entry))) ⌝ }
-        ensures kept { λ _. ⌜ now (marked .exit) ≡ record-after (mark-heard (hear-telegram telegram (view items (now (self .entry))))) (now (self .entry) .out) (now (marked .entry)) ⌝ }
+        ensures turn { λ r. ⌜ Follows (hear-telegram telegram (view items (now (self .entry)))) (view items (now (self .entry))) (view items (now (self .exit))) (now (marked .entry)) (now (marked .exit)) r ⌝ }
         ensures refused { λ r. ⌜ Cases r (λ _. Unit {0}) (λ _. now (self .exit) ≡ now (self .entry)) ⌝ }
     {
         match telegram {
@@ -103,9 +101,7 @@ impl<S: Slots<Item = Message>, F: Format> Reader<S, F> {
         message: Option<Message>,
         marked: &mut Message,
     ) -> Result<Response, Fault>
-        ensures answer { λ r. ⌜ r ≡ response (addressed control address message (view items (now (self .entry)))) ⌝ }
-        ensures moved { λ _. ⌜ view items (now (self .exit)) ≡ hear-after (addressed control address message (view items (now (self .entry)))) (view items (now (self .entry))) ⌝ }
-        ensures kept { λ _. ⌜ now (marked .exit) ≡ record-after (mark-heard (addressed control address message (view items (now (self .entry))))) (now (self .entry) .out) (now (marked .entry)) ⌝ }
+        ensures turn { λ r. ⌜ Follows (addressed control address message (view items (now (self .entry)))) (view items (now (self .entry))) (view items (now (self .exit))) (now (marked .entry)) (now (marked .exit)) r ⌝ }
         ensures refused { λ r. ⌜ Cases r (λ _. Unit {0}) (λ _. now (self .exit) ≡ now (self .entry)) ⌝ }
     {
         if !control.prm() {
@@ -127,9 +123,7 @@ impl<S: Slots<Item = Message>, F: Format> Reader<S, F> {
         message: Option<Message>,
         marked: &mut Message,
     ) -> Result<Response, Fault>
-        ensures answer { λ r. ⌜ r ≡ response (answer-to (asked (function-of (code-of (control .octet))) (bit 16 (control .octet)) (bit 32 (control .octet)) message) (view items (now (self .entry)))) ⌝ }
-        ensures moved { λ _. ⌜ view items (now (self .exit)) ≡ hear-after (answer-to (asked (function-of (code-of (control .octet))) (bit 16 (control .octet)) (bit 32 (control .octet)) message) (view items (now (self .entry)))) (view items (now (self .entry))) ⌝ }
-        ensures kept { λ _. ⌜ now (marked .exit) ≡ record-after (mark-heard (answer-to (asked (function-of (code-of (control .octet))) (bit 16 (control .octet)) (bit 32 (control .octet)) message) (view items (now (self .entry))))) (now (self .entry) .out) (now (marked .entry)) ⌝ }
+        ensures turn { λ r. ⌜ Follows (answer-to (asked (function-of (code-of (control .octet))) (bit 16 (control .octet)) (bit 32 (control .octet)) message) (view items (now (self .entry)))) (view items (now (self .entry))) (view items (now (self .exit))) (now (marked .entry)) (now (marked .exit)) r ⌝ }
         ensures refused { λ r. ⌜ Cases r (λ _. Unit {0}) (λ _. now (self .exit) ≡ now (self .entry)) ⌝ }
     {
         let fcv = control.fcv();
@@ -154,9 +148,7 @@ impl<S: Slots<Item = Message>, F: Format> Reader<S, F> {
 
     // Sets the link; the ACK is not stored.
     fn reset(&mut self, marked: &mut Message) -> Response
-        ensures answer { λ r. ⌜ Ok r ≡ response (answer-to reset (view items (now (self .entry)))) ⌝ }
-        ensures moved { λ _. ⌜ view items (now (self .exit)) ≡ hear-after (answer-to reset (view items (now (self .entry)))) (view items (now (self .entry))) ⌝ }
-        ensures kept { λ _. ⌜ now (marked .exit) ≡ record-after (mark-heard (answer-to reset (view items (now (self .entry))))) (now (self .entry) .out) (now (marked .entry)) ⌝ }
+        ensures turn { λ r. ⌜ Follows (answer-to reset (view items (now (self .entry)))) (view items (now (self .entry))) (view items (now (self .exit))) (now (marked .entry)) (now (marked .exit)) (Ok r) ⌝ }
     {
         self.link = Link::reset();
         self.stored = None;
@@ -182,9 +174,7 @@ impl<S: Slots<Item = Message>, F: Format> Reader<S, F> {
 
     // A send with the expected bit: into the inbox, or busy if that is full.
     fn take_in(&mut self, message: Message, marked: &mut Message) -> Response
-        ensures answer { λ r. ⌜ Ok r ≡ response (take-in (dfc (view items (now (self .entry)))) message (view items (now (self .entry)))) ⌝ }
-        ensures moved { λ _. ⌜ view items (now (self .exit)) ≡ hear-after (take-in (dfc (view items (now (self .entry)))) message (view items (now (self .entry)))) (view items (now (self .entry))) ⌝ }
-        ensures kept { λ _. ⌜ now (marked .exit) ≡ record-after (mark-heard (take-in (dfc (view items (now (self .entry)))) message (view items (now (self .entry))))) (now (self .entry) .out) (now (marked .entry)) ⌝ }
+        ensures turn { λ r. ⌜ Follows (take-in (dfc (view items (now (self .entry)))) message (view items (now (self .entry)))) (view items (now (self .entry))) (view items (now (self .exit))) (now (marked .entry)) (now (marked .exit)) (Ok r) ⌝ }
     {
         let entered = self.inbox.put(message);
         let mark = self.settle(marked);
@@ -196,9 +186,7 @@ impl<S: Slots<Item = Message>, F: Format> Reader<S, F> {
 
     // A poll with the expected bit: the oldest of its class, which is now out, or no data.
     fn give_out(&mut self, class: Class, marked: &mut Message) -> Response
-        ensures answer { λ r. ⌜ Ok r ≡ response (give-out (class-queue class (view items (now (self .entry))) .records) class (view items (now (self .entry)))) ⌝ }
-        ensures moved { λ _. ⌜ view items (now (self .exit)) ≡ hear-after (give-out (class-queue class (view items (now (self .entry))) .records) class (view items (now (self .entry)))) (view items (now (self .entry))) ⌝ }
-        ensures kept { λ _. ⌜ now (marked .exit) ≡ record-after (mark-heard (give-out (class-queue class (view items (now (self .entry))) .records) class (view items (now (self .entry))))) (now (self .entry) .out) (now (marked .entry)) ⌝ }
+        ensures turn { λ r. ⌜ Follows (give-out (class-queue class (view items (now (self .entry))) .records) class (view items (now (self .entry)))) (view items (now (self .entry))) (view items (now (self .exit))) (now (marked .entry)) (now (marked .exit)) (Ok r) ⌝ }
     {
         let oldest = self.take_oldest(class);
         let mark = self.settle(marked);

@@ -1,0 +1,5 @@
+use mathlib.Core.Path.{refl}
+use Rattle.books.proofs.Books.newest.Needs as need
+
+pub returns : need.returns
+returns c = refl
