@@ -65,10 +65,10 @@ pub record Silence : Type 0 where
       record { station = 5; service = Send; outcome = Doubtful; flags = no-flags; transmissions = 4 } ∷ []
   pub unset : send5 0x41 (silence (replicate 4 tt) (sent (send5 0x41 linked5) linked5)) ≡ Err (fault LinkUnset 0)
 
--- all of them
-pub record Cases : Type 0 where
-  pub ft12 : Ft12-cases
-  pub ft3 : Ft3-cases 79
+-- all of them; the longest frames of the two formats have so many symbols
+pub record Cases (longest-ft12 longest-ft3 : ℕ) : Type 0 where
+  pub ft12 : Ft12-cases longest-ft12
+  pub ft3 : Ft3-cases longest-ft3
   pub repeated : Repeated-send
   pub full : Full-inbox
   pub last : Last-slot

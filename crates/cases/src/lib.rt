@@ -2,7 +2,7 @@
 ghost use Rattle.cases.specs.Cases.{Cases};
 
 pub fn worked_cases()
-    ensures { λ _. ⌜ Cases ⌝ }
+    ensures { λ _. ⌜ Cases 72 79 ⌝ }
 {
     ft12::worked_cases();
     ft3::worked_cases();

@@ -15,7 +15,7 @@ use Rattle.frame.specs.Laws.{GuardLaw}
 use Rattle.ft12.proofs.Sizes.{Octets, length-frame, octets-length, size}
 use Rattle.ft12.proofs.Symbols.{octet-symbol, symbol-odd}
 use Rattle.ft12.specs.Frames.{check-of, frame-of, octets-of}
-use Rattle.ft12.specs.Sharp.{Sharp}
+use Rattle.ft12.specs.Sharp.{Unseen}
 use Rattle.ft12.specs.Symbols.{octet-of, symbol-of}
 use Rattle.std.proofs.shelf.Lists.{length-map, map-append, take-all, take-map}
 use Rattle.std.proofs.shelf.Sums.{sumBy-cons}
@@ -178,7 +178,7 @@ guarded m o b vm vo (k, within, long, fits, near) e =
     (e ∙ ap frame-of is, is)
 
 -- 10 01 02 03 16 and 10 02 01 03 16
-pub sharp : Sharp
+pub sharp : Unseen 4
 unfolding ones onesIn
 sharp =
     let m = fixed 1 2 in

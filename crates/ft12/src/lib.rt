@@ -5,7 +5,7 @@ mod writing;
 
 ghost use Rattle.ft12.specs.Cases.{Cases};
 ghost use Rattle.ft12.specs.Frames.{check-of, frame-of};
-ghost use Rattle.ft12.specs.Sharp.{Sharp};
+ghost use Rattle.ft12.specs.Sharp.{Unseen};
 ghost use Rattle.ft12.specs.Verdicts.{verdict-of};
 ghost use mathlib.Core.Path.{_≡_};
 use fault::Cause;
@@ -105,10 +105,10 @@ pub impl Format for Ft12 as Ft12Format {
 
 // No guard over 3 would hold: some four inverted bits pass unseen.
 pub fn guard_is_sharp()
-    ensures { λ _. ⌜ Sharp ⌝ }
+    ensures { λ _. ⌜ Unseen 4 ⌝ }
 {}
 
 // The worked cases hold of the definitions that write and read cite.
 pub fn worked_cases()
-    ensures { λ _. ⌜ Cases ⌝ }
+    ensures { λ _. ⌜ Cases 72 ⌝ }
 {}

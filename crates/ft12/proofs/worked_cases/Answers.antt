@@ -13,6 +13,6 @@ returns c =
       reset = refl;
       send = refl;
       no-user = refl;
-      longest = longest-variable;
+      most-octets = longest-variable;
       over = too-long;
     }
