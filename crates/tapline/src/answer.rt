@@ -63,7 +63,12 @@ impl Answer {
     // A frame at the front of a buffer, with so many digits to a symbol.
     pub fn frame(&mut self, buffer: &[u16], count: usize, digits: usize) -> fmt::Result {
         write!(self.text, "frame {count}:")?;
-        for symbol in buffer.iter().take(count) {
+        self.symbols(&buffer[0..count.min(buffer.len())], digits)
+    }
+
+    // Symbols, each after a blank, with so many digits.
+    pub fn symbols(&mut self, symbols: &[u16], digits: usize) -> fmt::Result {
+        for symbol in symbols {
             write!(self.text, " {symbol:0digits$X}")?;
         }
         Ok(())

@@ -6,6 +6,7 @@ use console::Radix;
 use console::Words;
 use console::WordsIterator;
 use console::parse_number;
+use damage::Flip;
 use frame::Control;
 use std::alloc::Global;
 use std::str::from_utf8;
@@ -33,6 +34,23 @@ pub impl Unit for u8 as OctetUnit {
 pub impl Unit for u16 as SymbolUnit {
     fn parse(word: &[u8]) -> Result<u16, NumberFault> {
         parse_number(word, Radix::Hexadecimal, 0xffff)
+    }
+}
+
+// A flip is the place of a symbol and a bit of it, as 3:7.
+pub impl Unit for Flip as FlipUnit {
+    fn parse(word: &[u8]) -> Result<Flip, NumberFault> {
+        for (i, byte) in word.iter().enumerate() {
+            if *byte == b':' {
+                let place = parse_number(&word[0..i], Radix::Decimal, MOST)?;
+                let bit = parse_number(&word[i + 1..], Radix::Decimal, MOST)?;
+                return Ok(Flip {
+                    place: usize::from(place),
+                    bit: u32::from(bit),
+                });
+            }
+        }
+        Err(NumberFault::NoNumber)
     }
 }
 
@@ -66,6 +84,19 @@ impl<'a> Arguments<'a> {
             Ok(keyword) => Ok(keyword),
             Err(_) => Err(self.usage()),
         }
+    }
+
+    // Whether this is the next word, which is then taken.
+    pub fn take_keyword(&mut self, keyword: &str) -> bool {
+        let mut rest = self.words;
+        let Some(word) = rest.next() else {
+            return false;
+        };
+        if word != keyword.as_bytes() {
+            return false;
+        }
+        self.words = rest;
+        true
     }
 
     pub fn number(&mut self) -> Result<u16, Mistake<'a>> {

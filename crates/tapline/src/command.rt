@@ -3,6 +3,8 @@ use crate::arguments::Arguments;
 use crate::arguments::OctetUnit;
 use crate::arguments::SymbolUnit;
 use crate::mistake::Mistake;
+use crate::site_command::SiteCall;
+use crate::site_command::parse_site_call;
 use console::Words;
 use console::WordsIterator;
 use frame::Content;
@@ -30,6 +32,10 @@ pub enum Command {
     Reader(ReaderCall),
     BenchConcentrator(ConcentratorPlan),
     Concentrator(ConcentratorCall),
+    // a new site, a reader on it, and what is asked of it
+    Site(ConcentratorPlan),
+    Join(ReaderPlan),
+    OnSite(SiteCall),
 }
 
 // A reader to be made: its address, and the slots of its queues.
@@ -100,7 +106,13 @@ impl Command {
                 let arguments = Arguments::new("c", words);
                 Command::Concentrator(parse_concentrator_call(heap, arguments)?)
             }
-            _ => return Err(Mistake::UnknownCommand),
+            "site" => Command::Site(parse_concentrator_plan(Arguments::new("site", words))?),
+            "reader" => Command::Join(parse_reader_plan(Arguments::new("reader", words))?),
+            _ => {
+                let whole = Arguments::new("this command", Words::new(line));
+                let rest = Arguments::new("this command", words);
+                Command::OnSite(parse_site_call(heap, name, whole, rest)?)
+            }
         };
         Ok(Some(command))
     }
@@ -219,7 +231,7 @@ fn parse_concentrator_plan<'a>(
     Ok(plan)
 }
 
-fn parse_concentrator_call<'a>(
+pub fn parse_concentrator_call<'a>(
     heap: Global,
     mut arguments: Arguments<'a>,
 ) -> Result<ConcentratorCall, Mistake<'a>> {

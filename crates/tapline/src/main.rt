@@ -1,5 +1,6 @@
 // The console of the link: reads commands, one to a line, from standard input or from the file that is its one
 // argument, carries each out on the library, and answers on standard output.
+mod account;
 mod answer;
 mod arguments;
 mod bench;
@@ -8,7 +9,9 @@ mod command;
 mod frames;
 mod input;
 mod mistake;
+mod on_site;
 mod session;
+mod site_command;
 
 use input::Reading;
 use input::read_line;

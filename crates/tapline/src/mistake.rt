@@ -1,5 +1,6 @@
 // Why a line of the console is no command.
 use console::NumberFault;
+use damage::DamageError;
 use std::alloc::AllocError;
 use std::alloc::Refused;
 use std::fmt;
@@ -16,6 +17,12 @@ pub enum Mistake<'a> {
     LongList,
     // a call of a bench that there is not
     NoBench(&'static str),
+    NoSite,
+    // a site's reader that there is not, or that may not join
+    NoReader,
+    Joined,
+    Closed,
+    Damage(DamageError),
     OutOfMemory,
 }
 
@@ -53,8 +60,23 @@ pub impl fmt::Display for Mistake<'_> as MistakeDisplay {
             }
             Mistake::LongList => f.write_str("more than 4096 octets or symbols"),
             Mistake::NoBench(end) => write!(f, "no {end} on the bench"),
+            Mistake::NoSite => f.write_str("no site"),
+            Mistake::NoReader => f.write_str("no such reader on the site"),
+            Mistake::Joined => f.write_str("there is a reader at that address"),
+            Mistake::Closed => f.write_str("readers join before the first call"),
+            Mistake::Damage(error) => f.write_str(damage_words(*error)),
             Mistake::OutOfMemory => f.write_str("out of memory"),
         }
+    }
+}
+
+fn damage_words(error: DamageError) -> &'static str {
+    match error {
+        DamageError::NothingCut => "the cut leaves off nothing",
+        DamageError::FlipOutside => "a flip outside the rest or the width",
+        DamageError::FlipTwice => "a flip is given twice",
+        DamageError::BeyondGuard => "beyond the guard",
+        DamageError::OutOfMemory => "out of memory",
     }
 }
 

@@ -15,6 +15,9 @@ use crate::frames::write_frame;
 use crate::mistake::Mistake;
 use crate::mistake::MistakeFromAllocError;
 use crate::mistake::MistakeFromFmtError;
+use crate::on_site::AnySite;
+use crate::on_site::answer_trouble;
+use crate::site_command::SiteCall;
 use frame::Content;
 use frame::Format;
 use frame::MOST_OCTETS;
@@ -36,6 +39,7 @@ pub struct Session {
     answer: Answer,
     reader: Option<BenchReader>,
     concentrator: Option<BenchConcentrator>,
+    site: Option<AnySite>,
 }
 
 impl Session {
@@ -47,6 +51,7 @@ impl Session {
             answer: Answer::new(heap)?,
             reader: None,
             concentrator: None,
+            site: None,
         })
     }
 
@@ -84,6 +89,9 @@ impl Session {
             Command::Reader(call) => self.call_reader(call)?,
             Command::BenchConcentrator(plan) => self.put_concentrator(plan)?,
             Command::Concentrator(call) => self.call_concentrator(call)?,
+            Command::Site(plan) => self.put_site(plan)?,
+            Command::Join(plan) => self.join(plan)?,
+            Command::OnSite(call) => self.call_site(call)?,
         }
         self.answer.say("\n")?;
         Ok(())
@@ -172,6 +180,35 @@ impl Session {
                 Ok(())
             }
             None => Err(Mistake::NoBench("concentrator")),
+        }
+    }
+}
+
+// The site.
+impl Session {
+    fn put_site<'a>(&mut self, plan: ConcentratorPlan) -> Result<(), Mistake<'a>> {
+        match AnySite::new(self.heap, self.format, plan) {
+            Ok(site) => {
+                self.site = Some(site);
+                self.answer.say("site")?;
+                Ok(())
+            }
+            Err(trouble) => answer_trouble(trouble, &mut self.answer),
+        }
+    }
+
+    fn join<'a>(&mut self, plan: ReaderPlan) -> Result<(), Mistake<'a>> {
+        match &mut self.site {
+            Some(site) => site.join(plan, &mut self.answer),
+            None => Err(Mistake::NoSite),
+        }
+    }
+
+    fn call_site<'a>(&mut self, call: SiteCall) -> Result<(), Mistake<'a>> {
+        let places = self.buffer.len();
+        match &mut self.site {
+            Some(site) => site.call(call, places, &mut self.answer),
+            None => Err(Mistake::NoSite),
         }
     }
 }
