@@ -1,7 +1,7 @@
 #!/usr/bin/env python3
 """The link and its console, as docs/RULES.md and docs/CONSOLE.md have them, in plain Python.
 
-Written from these pages alone, to compare the program with: it shares no code, no table and no data with it.
+To compare the program with: it shares no code, no table and no data with it.
     reference.py [FILE]      answers the commands of FILE, or of standard input
 The status is 1 if some line was an error, as the program's is. The text after 'error LINE:' is its own.
 """
