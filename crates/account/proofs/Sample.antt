@@ -2,7 +2,7 @@
 use Rattle.std.proofs.Common.{◌≡◌, ℕ, zero, suc, ◌<◌, Bool, true, false, ◌&&◌, ltb, List, [], ◌∷◌, length, get_or, take, Some, None, Ok, Option, refl, ap, ◌∙◌, subst, arith}
 use lib.Bits.{bit_xor, xor_self}
 use lib.Count.{ones, ones_in}
-use lib.Seq.{take_length}
+use lib.Seq.{take-length}
 use Rattle.account.proofs.Valid.{Sayable, ValidWorld, burst_valid, new_valid, valid_run}
 use Rattle.account.specs.Books.{Station, found}
 use Rattle.account.specs.Line as line
@@ -79,7 +79,7 @@ module _ {X : Type 0} (F : Ghosts X) (size : SizeLaw F.width F.longest F.frame) 
   as_sent : (b : Burst) → Sayable b.telegram → HeardAs F b (F.frame (carried b.telegram))
   as_sent b s =
       let f = F.frame (carried b.telegram) in
-      let d : distance (take (length f) f) f ≡ 0 = ap (λ l. distance l f) (take_length f) ∙ none_inverted f in
+      let d : distance (take (length f) f) f ≡ 0 = ap (λ l. distance l f) (take-length f) ∙ none_inverted f in
       (length f, omega arith, refl, (size (carried b.telegram) s.valid).2, omega (arith, d))
 
   read_so : (t : Telegram) → Sayable t → telegram_read (F.verdict (F.frame (carried t))) ≡ Ok t

@@ -1,5 +1,7 @@
 // The account of the two ends of a line: which sends entered a reader's inbox, which offers arrived from it, and that
 // none is lost or doubled beyond what the states say.
+#![tactic(auto)]
+
 mod books;
 
 ghost use Rattle.account.specs.Account.{TwoEndsOver};

@@ -1,5 +1,7 @@
 // The books of one reader on a simulated line: every send to it and every offer of it by its number and its state, and
 // the numbers of what entered its inbox and of what arrived from it.
+#![tactic(auto)]
+
 mod calls;
 mod reading;
 

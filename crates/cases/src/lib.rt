@@ -1,4 +1,6 @@
 // The worked cases of the link, as one theorem of the definitions that the formats and both ends cite.
+#![tactic(auto)]
+
 ghost use Rattle.cases.specs.Cases.{Cases};
 
 pub fn worked_cases()

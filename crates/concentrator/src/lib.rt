@@ -1,5 +1,7 @@
 // The concentrator, the primary station of the link: it asks its readers, one exchange at a time, and keeps what they
 // answer and how each exchange ended.
+#![tactic(auto)]
+
 ghost use Rattle.account.specs.Account.{TwoEndsOver};
 ghost use Rattle.concentrator.specs.View.{view};
 ghost use Rattle.fault.specs.Causes.{fault};

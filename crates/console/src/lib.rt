@@ -1,4 +1,6 @@
 // The words and the numbers of the console's language.
+#![tactic(auto)]
+
 mod number;
 mod words;
 

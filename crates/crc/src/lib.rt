@@ -1,4 +1,6 @@
 // The check of FT3's blocks, and how far the blocks that are sent lie apart.
+#![tactic(auto)]
+
 mod table;
 
 ghost use Rattle.std.specs.Prelude.{◌≡◌, ◌*◌, ◌^◌, false, replicate, bit_xor, slice_index};

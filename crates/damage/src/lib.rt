@@ -1,4 +1,6 @@
 // What a line does to a burst on the way to one end: it leaves off symbols at the end, and inverts bits of the others.
+#![tactic(auto)]
+
 ghost use Rattle.std.specs.Prelude.{◌≡◌, ◌<◌, true, not, length, IfOk, if◌then◌else◌, Some, None};
 ghost use Rattle.damage.specs.Damages.{Answers, all_within, differs, flipped, hearing, inverted, is_within, rest, shortens, twice};
 ghost use Rattle.frame.specs.Damage.{Damaged, Fits};
@@ -41,8 +43,8 @@ pub fn heard<F: Format>(
     symbols: &[u16],
     damage: &Damage,
 ) -> Result<Vec<u16>, DamageError>
-    ensures answer { Answers result (hearing width guard damage.now.cut damage.now.flips.items symbols.now) }
-    ensures damaged { IfOk result (λ v. Fits width symbols.now → Damaged width guard symbols.now v.items) }
+    ensures answer { Answers result (hearing F.width F.guard damage.now.cut damage.now.flips.items symbols.now) }
+    ensures damaged { IfOk result (λ v. Fits F.width symbols.now → Damaged F.width F.guard symbols.now v.items) }
 {
     let limits = F::limits();
     let flips = damage.flips.as_slice();

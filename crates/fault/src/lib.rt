@@ -1,4 +1,6 @@
 // The one fault type of the link: why a call was refused, at which layer, and at which place.
+#![tactic(auto)]
+
 mod report;
 
 ghost use Rattle.fault.specs.Causes.{fault, layer_of, number_of};

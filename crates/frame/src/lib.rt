@@ -1,4 +1,6 @@
 // What a frame format is: contents, the control octet, and the interface that every format implements.
+#![tactic(auto)]
+
 mod control;
 
 ghost use Rattle.std.specs.Prelude.{◌≡◌, ℕ, Bool, List, Result};
@@ -95,7 +97,7 @@ pub trait Format {
 
 // The checks of every burst before its frame is looked at: empty, over the longest, and the first broken symbol.
 pub fn check_burst<A: Alphabet>(burst: &[u16], longest: usize) -> Result<(), Fault>
-    ensures { result ≡ line_checked sound longest burst.now }
+    ensures { result ≡ line_checked A.sound longest burst.now }
 {
     if burst.len() < 1 {
         return Err(Fault::of(Cause::EmptyBurst));

@@ -1,4 +1,6 @@
 // FT1.2: symbols of 11 bits with a parity bit, frames with a check octet.
+#![tactic(auto)]
+
 mod reading;
 mod symbol;
 mod writing;

@@ -1,4 +1,6 @@
 // FT3, in our profile for the radio: symbols are octets, and each block of a frame is followed by its check.
+#![tactic(auto)]
+
 mod reading;
 mod writing;
 

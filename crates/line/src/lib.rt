@@ -1,4 +1,6 @@
 // The memory of a line: every burst that was written to it, and to which ends each is still on the way.
+#![tactic(auto)]
+
 mod burst;
 mod changes;
 mod reads;

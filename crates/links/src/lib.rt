@@ -1,5 +1,7 @@
 // The links of a concentrator: the table of them, what a request asks of a link and sends over it, and what an answer
 // makes of the exchange and of its link.
+#![tactic(auto)]
+
 mod answers;
 mod requests;
 mod table;

@@ -1,4 +1,6 @@
 // A first-in first-out queue in 1 to 256 slots, for records of any kind, wherever the slots lie.
+#![tactic(auto)]
+
 mod slots;
 
 ghost use Rattle.queue.specs.Fifo.{empty, full, oldest, put_answer, put_contents, slots_answer, slots_capacity, slots_fit, take_answer, take_contents};
@@ -59,8 +61,8 @@ impl<S: Slots> Queue<S> {
     // An empty queue over the slots, which stay as they are. Where `check_slots` refuses their
     // number it can hold nothing.
     pub fn over(slots: S) -> Queue<S>
-        ensures held { contents items result ≡ [] }
-        ensures room { capacity items result ≡ slots_capacity (length (items slots)) }
+        ensures held { contents S.items result ≡ [] }
+        ensures room { capacity S.items result ≡ slots_capacity (length (S.items slots)) }
         ensures store { result.slots ≡ slots }
         ensures first { result.first ≡ 0 }
     {
@@ -73,7 +75,7 @@ impl<S: Slots> Queue<S> {
 
     // True of every queue over a right number of slots; tested in place of a condition on calls.
     fn is_sound(&self) -> bool
-        ensures { result ≡ sound items self.now }
+        ensures { result ≡ sound S.items self.now }
     {
         let count = self.slots.count();
         slots_fit(count) && self.first < count && self.len <= count
@@ -81,14 +83,14 @@ impl<S: Slots> Queue<S> {
 
     // How many records it holds.
     pub fn len(&self) -> usize
-        ensures { result ≡ length (contents items self.now) }
+        ensures { result ≡ length (contents S.items self.now) }
     {
         if self.is_sound() { self.len } else { 0 }
     }
 
     // How many records it can hold.
     pub fn capacity(&self) -> usize
-        ensures { result ≡ capacity items self.now }
+        ensures { result ≡ capacity S.items self.now }
     {
         if self.is_sound() {
             self.slots.count()
@@ -98,19 +100,19 @@ impl<S: Slots> Queue<S> {
     }
 
     pub fn is_empty(&self) -> bool
-        ensures { result ≡ empty (contents items self.now) }
+        ensures { result ≡ empty (contents S.items self.now) }
     {
         self.len() == 0
     }
 
     pub fn is_full(&self) -> bool
-        ensures { result ≡ full (capacity items self.now) (contents items self.now) }
+        ensures { result ≡ full (capacity S.items self.now) (contents S.items self.now) }
     {
         self.len() >= self.capacity()
     }
 
     fn oldest(&self) -> Option<S::Item>
-        ensures { result ≡ oldest (contents items self.now) }
+        ensures { result ≡ oldest (contents S.items self.now) }
     {
         if self.is_empty() {
             None
@@ -121,10 +123,10 @@ impl<S: Slots> Queue<S> {
 
     // Puts one record more, as the newest.
     pub fn put(&mut self, x: S::Item) -> Result<(), Fault>
-        ensures answer { result ≡ put_answer (capacity items self.old) (contents items self.old) }
-        ensures held { contents items self.new ≡ put_contents (capacity items self.old) (contents items self.old) x }
-        ensures room { capacity items self.new ≡ capacity items self.old }
-        ensures store { items self.new.slots ≡ put_items items self.old x }
+        ensures answer { result ≡ put_answer (capacity S.items self.old) (contents S.items self.old) }
+        ensures held { contents S.items self.new ≡ put_contents (capacity S.items self.old) (contents S.items self.old) x }
+        ensures room { capacity S.items self.new ≡ capacity S.items self.old }
+        ensures store { S.items self.new.slots ≡ put_items S.items self.old x }
         ensures first { self.new.first ≡ self.old.first }
         ensures refused { OnErr result (self.new ≡ self.old) }
     {
@@ -139,11 +141,11 @@ impl<S: Slots> Queue<S> {
 
     // Takes the oldest record, whose slot is free then.
     pub fn take(&mut self) -> Result<S::Item, Fault>
-        ensures answer { result ≡ take_answer (contents items self.old) }
-        ensures held { contents items self.new ≡ take_contents (contents items self.old) }
-        ensures room { capacity items self.new ≡ capacity items self.old }
+        ensures answer { result ≡ take_answer (contents S.items self.old) }
+        ensures held { contents S.items self.new ≡ take_contents (contents S.items self.old) }
+        ensures room { capacity S.items self.new ≡ capacity S.items self.old }
         ensures store { self.new.slots ≡ self.old.slots }
-        ensures first { self.new.first ≡ take_first items self.old }
+        ensures first { self.new.first ≡ take_first S.items self.old }
         ensures refused { OnErr result (self.new ≡ self.old) }
     {
         let Some(x) = self.oldest() else {

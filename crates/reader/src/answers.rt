@@ -12,7 +12,7 @@ use rules::telegram::Telegram;
 
 impl<S: Slots<Item = Message>, F: Format> Reader<S, F> {
     fn control(&self, reply: Reply) -> Control
-        ensures { result ≡ control_of reply (view items self.now) }
+        ensures { result ≡ control_of reply (view S.items self.now) }
     {
         let acd = !self.class1.is_empty();
         let dfc = self.inbox.is_full();
@@ -20,7 +20,7 @@ impl<S: Slots<Item = Message>, F: Format> Reader<S, F> {
     }
 
     pub(crate) fn says(&self, reply: Reply) -> Telegram
-        ensures { result ≡ says reply (view items self.now) }
+        ensures { result ≡ says reply (view S.items self.now) }
     {
         Telegram::Fixed {
             control: self.control(reply),
@@ -30,7 +30,7 @@ impl<S: Slots<Item = Message>, F: Format> Reader<S, F> {
 
     // Single exactly if ACD and DFC are 0.
     pub(crate) fn says_briefly(&self, reply: Reply) -> Telegram
-        ensures { result ≡ says_briefly reply (view items self.now) }
+        ensures { result ≡ says_briefly reply (view S.items self.now) }
     {
         if !self.class1.is_empty() || self.inbox.is_full() {
             self.says(reply)
@@ -40,7 +40,7 @@ impl<S: Slots<Item = Message>, F: Format> Reader<S, F> {
     }
 
     pub(crate) fn says_data(&self, message: Message) -> Telegram
-        ensures { result ≡ says_data message (view items self.now) }
+        ensures { result ≡ says_data message (view S.items self.now) }
     {
         Telegram::Variable {
             control: self.control(Reply::Data),

@@ -47,10 +47,10 @@ impl<S: Slots<Item = Message>, F: Format> Reader<S, F> {
         marked: &mut Message,
         buffer: &mut [u16],
     ) -> Result<Heard, Fault>
-        ensures answer { result ≡ heard_answer F.Format (hearing F.Format burst.now buffer.old (view items self.old)) }
-        ensures moved { view items self.new ≡ hear_after (hearing F.Format burst.now buffer.old (view items self.old)) (view items self.old) }
-        ensures kept { marked.new ≡ record_after (mark_heard (hearing F.Format burst.now buffer.old (view items self.old))) (view items self.old).out marked.old }
-        ensures written { buffer.new ≡ heard_buffer F.Format (hearing F.Format burst.now buffer.old (view items self.old)) buffer.old }
+        ensures answer { result ≡ heard_answer F.Format (hearing F.Format burst.now buffer.old (view S.items self.old)) }
+        ensures moved { view S.items self.new ≡ hear_after (hearing F.Format burst.now buffer.old (view S.items self.old)) (view S.items self.old) }
+        ensures kept { marked.new ≡ record_after (mark_heard (hearing F.Format burst.now buffer.old (view S.items self.old))) (view S.items self.old).out marked.old }
+        ensures written { buffer.new ≡ heard_buffer F.Format (hearing F.Format burst.now buffer.old (view S.items self.old)) buffer.old }
         ensures refused { OnErr result (self.new ≡ self.old) }
     {
         if buffer.len() < F::limits().longest {
@@ -68,7 +68,7 @@ impl<S: Slots<Item = Message>, F: Format> Reader<S, F> {
 
     // Single comes from a reader.
     fn hear_telegram(&mut self, telegram: Telegram, marked: &mut Message) -> Result<Response, Fault>
-        ensures turn { Follows (hear_telegram telegram (view items self.old)) (view items self.old) (view items self.new) marked.old marked.new result }
+        ensures turn { Follows (hear_telegram telegram (view S.items self.old)) (view S.items self.old) (view S.items self.new) marked.old marked.new result }
         ensures refused { OnErr result (self.new ≡ self.old) }
     {
         match telegram {
@@ -90,7 +90,7 @@ impl<S: Slots<Item = Message>, F: Format> Reader<S, F> {
         message: Option<Message>,
         marked: &mut Message,
     ) -> Result<Response, Fault>
-        ensures turn { Follows (addressed control address message (view items self.old)) (view items self.old) (view items self.new) marked.old marked.new result }
+        ensures turn { Follows (addressed control address message (view S.items self.old)) (view S.items self.old) (view S.items self.new) marked.old marked.new result }
         ensures refused { OnErr result (self.new ≡ self.old) }
     {
         if !control.prm() {
@@ -112,7 +112,7 @@ impl<S: Slots<Item = Message>, F: Format> Reader<S, F> {
         message: Option<Message>,
         marked: &mut Message,
     ) -> Result<Response, Fault>
-        ensures turn { Follows (answer-to (asked (function_of (code_of control.octet)) (bit 16 control.octet) (bit 32 control.octet) message) (view items self.old)) (view items self.old) (view items self.new) marked.old marked.new result }
+        ensures turn { Follows (answer-to (asked (function_of (code_of control.octet)) (bit 16 control.octet) (bit 32 control.octet) message) (view S.items self.old)) (view S.items self.old) (view S.items self.new) marked.old marked.new result }
         ensures refused { OnErr result (self.new ≡ self.old) }
     {
         let fcv = control.fcv();
@@ -137,7 +137,7 @@ impl<S: Slots<Item = Message>, F: Format> Reader<S, F> {
 
     // Sets the link; the ACK is not stored.
     fn reset(&mut self, marked: &mut Message) -> Response
-        ensures turn { Follows (answer-to reset (view items self.old)) (view items self.old) (view items self.new) marked.old marked.new (Ok result) }
+        ensures turn { Follows (answer-to reset (view S.items self.old)) (view S.items self.old) (view S.items self.new) marked.old marked.new (Ok result) }
     {
         self.link = Link::reset();
         self.stored = None;
@@ -151,9 +151,9 @@ impl<S: Slots<Item = Message>, F: Format> Reader<S, F> {
 
     // The stored answer goes out again, symbol for symbol.
     fn repeat(&self) -> Result<Response, Fault>
-        ensures answer { result ≡ response (repeat self.now.stored (view items self.now)) }
-        ensures moved { view items self.now ≡ hear_after (repeat self.now.stored (view items self.now)) (view items self.now) }
-        ensures unmarked { mark_heard (repeat self.now.stored (view items self.now)) ≡ None }
+        ensures answer { result ≡ response (repeat self.now.stored (view S.items self.now)) }
+        ensures moved { view S.items self.now ≡ hear_after (repeat self.now.stored (view S.items self.now)) (view S.items self.now) }
+        ensures unmarked { mark_heard (repeat self.now.stored (view S.items self.now)) ≡ None }
     {
         match self.stored {
             Some(answer) => Ok(Response::still(answer)),
@@ -163,7 +163,7 @@ impl<S: Slots<Item = Message>, F: Format> Reader<S, F> {
 
     // A send with the expected bit: into the inbox, or busy if that is full.
     fn take_in(&mut self, message: Message, marked: &mut Message) -> Response
-        ensures turn { Follows (take_in (dfc (view items self.old)) message (view items self.old)) (view items self.old) (view items self.new) marked.old marked.new (Ok result) }
+        ensures turn { Follows (take_in (dfc (view S.items self.old)) message (view S.items self.old)) (view S.items self.old) (view S.items self.new) marked.old marked.new (Ok result) }
     {
         let entered = self.inbox.put(message);
         let mark = self.settle(marked);
@@ -175,7 +175,7 @@ impl<S: Slots<Item = Message>, F: Format> Reader<S, F> {
 
     // A poll with the expected bit: the oldest of its class, which is now out, or no data.
     fn give_out(&mut self, class: Class, marked: &mut Message) -> Response
-        ensures turn { Follows (give_out (class_queue class (view items self.old)).records class (view items self.old)) (view items self.old) (view items self.new) marked.old marked.new (Ok result) }
+        ensures turn { Follows (give_out (class_queue class (view S.items self.old)).records class (view S.items self.old)) (view S.items self.old) (view S.items self.new) marked.old marked.new (Ok result) }
     {
         let oldest = self.take_oldest(class);
         let mark = self.settle(marked);
@@ -191,7 +191,7 @@ impl<S: Slots<Item = Message>, F: Format> Reader<S, F> {
     // The answer is stored, for a repetition of its request.
     fn store(&mut self, answer: Telegram, taken: bool, mark: Option<Mark>) -> Response
         ensures answer { result ≡ record { answer = answer; taken = taken; mark = mark } }
-        ensures moved { view items self.new ≡ with_link self.old.link (Some answer) self.old.out (view items self.old) }
+        ensures moved { view S.items self.new ≡ with_link self.old.link (Some answer) self.old.out (view S.items self.old) }
     {
         self.stored = Some(answer);
         Response {
@@ -202,8 +202,8 @@ impl<S: Slots<Item = Message>, F: Format> Reader<S, F> {
     }
 
     fn take_oldest(&mut self, class: Class) -> Result<Message, Fault>
-        ensures answer { result ≡ take_answer (class_queue class (view items self.old)).records }
-        ensures moved { view items self.new ≡ with_class class (holding (class_queue class (view items self.old)) (take_contents (class_queue class (view items self.old)).records)) (view items self.old) }
+        ensures answer { result ≡ take_answer (class_queue class (view S.items self.old)).records }
+        ensures moved { view S.items self.new ≡ with_class class (holding (class_queue class (view S.items self.old)) (take_contents (class_queue class (view S.items self.old)).records)) (view S.items self.old) }
         ensures refused { OnErr result (self.new ≡ self.old) }
     {
         match class {

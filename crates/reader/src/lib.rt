@@ -1,4 +1,6 @@
 // The reader's end of the link, over any frame format and any store of slots.
+#![tactic(auto)]
+
 mod answers;
 mod hearing;
 mod marking;
@@ -55,7 +57,7 @@ pub fn check(address: u8, slots1: usize, slots2: usize, slots: usize) -> Result<
 impl<S: Slots<Item = Message>, F: Format> Reader<S, F> {
     // A new reader over the slots of its queues; one over a wrong number of slots has a queue that can hold nothing.
     pub fn over(address: u8, class1: S, class2: S, inbox: S) -> Reader<S, F>
-        ensures { view items result ≡ new_reader address (length (items class1)) (length (items class2)) (length (items inbox)) }
+        ensures { view S.items result ≡ new_reader address (length (S.items class1)) (length (S.items class2)) (length (S.items inbox)) }
     {
         Reader {
             address,
@@ -70,20 +72,20 @@ impl<S: Slots<Item = Message>, F: Format> Reader<S, F> {
     }
 
     pub fn address(&self) -> u8
-        ensures { result ≡ (view items self.now).address }
+        ensures { result ≡ (view S.items self.now).address }
     {
         self.address
     }
 
     pub fn link(&self) -> Link
-        ensures { result ≡ (view items self.now).link }
+        ensures { result ≡ (view S.items self.now).link }
     {
         self.link
     }
 
     // How many messages of a class wait to be handed out.
     pub fn waiting(&self, class: Class) -> usize
-        ensures { result ≡ length (class_queue class (view items self.now)).records }
+        ensures { result ≡ length (class_queue class (view S.items self.now)).records }
     {
         match class {
             Class::First => self.class1.len(),
@@ -93,15 +95,15 @@ impl<S: Slots<Item = Message>, F: Format> Reader<S, F> {
 
     // How many messages wait to be collected.
     pub fn received(&self) -> usize
-        ensures { result ≡ length (view items self.now).inbox.records }
+        ensures { result ≡ length (view S.items self.now).inbox.records }
     {
         self.inbox.len()
     }
 
     // One message more for the concentrator, as the newest of its class.
     pub fn offer(&mut self, class: u8, octets: &[u8]) -> Result<(), Fault>
-        ensures answer { result ≡ offer_answer (offer class octets.now (view items self.old)) }
-        ensures moved { view items self.new ≡ offer_after (offer class octets.now (view items self.old)) (view items self.old) }
+        ensures answer { result ≡ offer_answer (offer class octets.now (view S.items self.old)) }
+        ensures moved { view S.items self.new ≡ offer_after (offer class octets.now (view S.items self.old)) (view S.items self.old) }
         ensures refused { OnErr result (self.new ≡ self.old) }
     {
         let message = Message::new(octets)?;
@@ -114,8 +116,8 @@ impl<S: Slots<Item = Message>, F: Format> Reader<S, F> {
 
     // The oldest message of the inbox, which is taken out.
     pub fn collect(&mut self) -> Result<Message, Fault>
-        ensures answer { result ≡ take_answer (view items self.old).inbox.records }
-        ensures moved { view items self.new ≡ collected (view items self.old) }
+        ensures answer { result ≡ take_answer (view S.items self.old).inbox.records }
+        ensures moved { view S.items self.new ≡ collected (view S.items self.old) }
         ensures refused { OnErr result (self.new ≡ self.old) }
     {
         self.inbox.take()

@@ -15,9 +15,9 @@ impl<S: Slots<Item = Message>, F: Format> Reader<S, F> {
     // Starts again: the link is unset, nothing is stored, and the message out is doubtful; it then stands in the
     // caller's record, which is otherwise left. The queues stay.
     pub fn restart(&mut self, marked: &mut Message) -> Option<Mark>
-        ensures answer { result ≡ mark_of Doubtful (view items self.old).out }
-        ensures moved { view items self.new ≡ restarted (view items self.old) }
-        ensures kept { marked.new ≡ record_after (mark_of Doubtful (view items self.old).out) (view items self.old).out marked.old }
+        ensures answer { result ≡ mark_of Doubtful (view S.items self.old).out }
+        ensures moved { view S.items self.new ≡ restarted (view S.items self.old) }
+        ensures kept { marked.new ≡ record_after (mark_of Doubtful (view S.items self.old).out) (view S.items self.old).out marked.old }
     {
         self.link = self.link.unset();
         self.stored = None;
@@ -27,7 +27,7 @@ impl<S: Slots<Item = Message>, F: Format> Reader<S, F> {
     // The expected bit has come: it flips, and the message out is settled.
     pub(crate) fn settle(&mut self, marked: &mut Message) -> Option<Mark>
         ensures answer { result ≡ mark_of Settled self.old.out }
-        ensures moved { view items self.new ≡ with_link (flipped self.old.link) self.old.stored None (view items self.old) }
+        ensures moved { view S.items self.new ≡ with_link (flipped self.old.link) self.old.stored None (view S.items self.old) }
         ensures kept { marked.new ≡ record_after result self.old.out marked.old }
     {
         self.link = self.link.flipped();
@@ -37,7 +37,7 @@ impl<S: Slots<Item = Message>, F: Format> Reader<S, F> {
     // Marks the message out, which is out no more and stands in the caller's record.
     pub(crate) fn mark_out(&mut self, mark: Mark, marked: &mut Message) -> Option<Mark>
         ensures answer { result ≡ mark_of mark self.old.out }
-        ensures moved { view items self.new ≡ with_link self.old.link self.old.stored None (view items self.old) }
+        ensures moved { view S.items self.new ≡ with_link self.old.link self.old.stored None (view S.items self.old) }
         ensures kept { marked.new ≡ record_after result self.old.out marked.old }
     {
         let message = self.out?;

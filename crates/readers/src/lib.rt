@@ -1,4 +1,6 @@
 // The readers on a simulated line, each with its books, by their addresses.
+#![tactic(auto)]
+
 mod calls;
 mod exchanges;
 

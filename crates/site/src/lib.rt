@@ -1,5 +1,7 @@
 // A site: a concentrator, its readers and the line between them, run by the real code of both ends. Whatever is done to
 // it, it stands at some point of a lawful run of its own calls: each call that is made is one event more of that run.
+#![tactic(auto)]
+
 mod answering;
 mod calls;
 mod hearing;

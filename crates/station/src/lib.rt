@@ -1,4 +1,6 @@
 // A reader on a simulated line, run by the reader's own code, with the books of what it is sent and what it offers.
+#![tactic(auto)]
+
 mod calls;
 mod hearing;
 mod requests;

@@ -1,5 +1,7 @@
 // The console of the link: reads commands, one to a line, from standard input or from the file that is its one
 // argument, carries each out on the library, and answers on standard output.
+#![tactic(auto)]
+
 mod account;
 mod answer;
 mod arguments;

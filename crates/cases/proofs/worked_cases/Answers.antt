@@ -7,8 +7,8 @@ use Rattle.rules.specs.Concentrator.{link_after, verdict}
 pub returns : goal.returns
 unfolding ones ones_in give_out hear_telegram repeat take_in link_after verdict
 returns c = record {
-  ft12 = c.worked-cases.ensures;
-  ft3 = c.worked-cases-2.ensures;
+  ft12 = c.worked_cases.ensures;
+  ft3 = c.worked_cases-2.ensures;
   repeated = record { first = refl; second = refl; once = refl };
   full = record { busy = refl; again = refl; empty = refl };
   last = refl;

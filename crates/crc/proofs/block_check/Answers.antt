@@ -26,7 +26,7 @@ returns c = record { checked = is_check; divided = subst (λ (r : ℕ). Remainde
     xs = c.args.block.now
 
     under : AllBelowBase 256 xs
-    under = All-from_get_or (λ x. x < 256) xs 0 (λ i h. omega (arith, c.type-inv.block i))
+    under = All-from_get_or (λ x. x < 256) xs 0 (λ i h. omega (arith, c.type_inv.block i))
 
     is_check : bit_xor c.loop-octet.register 0xFFFF ≡ check xs
     is_check =

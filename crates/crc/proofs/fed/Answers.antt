@@ -4,11 +4,11 @@ use Rattle.crc.specs.Check.{remainder, bring_down}
 use Rattle.crc.proofs.Register.{entries, by_table}
 use Rattle.crc.proofs.fed.Goals as goal
 
-pub overflow-cast-result : goal.overflow-cast-result
-overflow-cast-result c = omega (arith, xor_lt 8 (c.args.register / 256) c.args.octet (omega arith) (omega arith))
+pub overflow_cast-result : goal.overflow_cast-result
+overflow_cast-result c = omega (arith, xor_lt 8 (c.args.register / 256) c.args.octet (omega arith) (omega arith))
 
-pub offset-bounds-out : goal.offset-bounds-out
-offset-bounds-out c = omega (arith, xor_lt 8 (c.args.register / 256) c.args.octet (omega arith) (omega arith))
+pub offset_bounds-out : goal.offset_bounds-out
+offset_bounds-out c = omega (arith, xor_lt 8 (c.args.register / 256) c.args.octet (omega arith) (omega arith))
 
 pub bounds-out : goal.bounds-out
 bounds-out c = xor_lt 8 (c.args.register / 256) c.args.octet (omega arith) (omega arith)

@@ -4,4 +4,4 @@ use Rattle.crc.proofs.published_checks.Goals as goal
 
 pub returns : goal.returns
 unfolding sealed check bits remainder bring_down
-returns c = record { vectors = (refl, refl); digits = c.block-check.ensures.checked; reset = c.block-check-2.ensures.checked }
+returns c = record { vectors = (refl, refl); digits = c.block_check.ensures.checked; reset = c.block_check-2.ensures.checked }

@@ -1,4 +1,4 @@
 use Rattle.books.proofs.Books.offers.Goals as goal
 
 pub returns : goal.returns
-returns c = c.as-slice.ensures.value
+returns c = c.as_slice.ensures.value

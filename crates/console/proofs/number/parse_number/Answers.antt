@@ -2,9 +2,9 @@ use Rattle.std.proofs.Common.{sym, ◌∙◌, arith}
 use Rattle.console.proofs.Numbers.{number_is, no_digit, one_digit, no_more}
 use Rattle.console.proofs.number.parse_number.Goals as goal
 
-pub returns-in-default : goal.returns-in-default
-returns-in-default c =
-    sym (number_is _ _ _ (sym c.if-is-empty.ensures) ∙ sym c.loop-byte.invariant.1 ∙ no_digit _ _ _ _ _ c.loop-byte-test.true (sym c.in-default.ensures))
+pub returns-in_default : goal.returns-in_default
+returns-in_default c =
+    sym (number_is _ _ _ (sym c.if-is_empty.ensures) ∙ sym c.loop-byte.invariant.1 ∙ no_digit _ _ _ _ _ c.loop-byte-test.true (sym c.in_default.ensures))
 
 pub loop-byte-preserved : goal.loop-byte-preserved
 loop-byte-preserved c =
@@ -12,4 +12,4 @@ loop-byte-preserved c =
 
 pub returns : goal.returns
 returns c =
-    c.limit.ensures ∙ sym (number_is _ _ _ (sym c.if-is-empty.ensures) ∙ sym c.loop-byte.invariant.1 ∙ no_more _ _ _ _ _ c.loop-byte-test.false)
+    c.limit.ensures ∙ sym (number_is _ _ _ (sym c.if-is_empty.ensures) ∙ sym c.loop-byte.invariant.1 ∙ no_more _ _ _ _ _ c.loop-byte-test.false)

@@ -6,5 +6,5 @@ use Rattle.ft3.specs.VerdictsLemmas.{burst_verdict}
 pub returns : goal.returns
 returns c =
     let b = c.args.burst.now in
-    let same = burst_verdict b (take (length b) c.decode-burst.new.octets) (sym c.in-ok-check-burst.ensures) c.decode-burst.ensures in
-    record { answer = c.read-octets.ensures.answer ∙ ap content_read same; filled = c.read-octets.ensures.filled ∙ ap (λ v. filled_record v c.args.user.now) same }
+    let same = burst_verdict b (take (length b) c.decode_burst.new.octets) (sym c.in_ok-check_burst.ensures) c.decode_burst.ensures in
+    record { answer = c.read_octets.ensures.answer ∙ ap content_read same; filled = c.read_octets.ensures.filled ∙ ap (λ v. filled_record v c.args.user.now) same }

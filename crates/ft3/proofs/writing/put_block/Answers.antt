@@ -9,5 +9,5 @@ loop-i-preserved c =
 
 pub returns : goal.returns
 returns c =
-    copied_all c.args.block.now c.args.part.now c.loop-i.part c.loop-i.i c.block-check-check.result
-    c.requires (omega arith) c.loop-i-test.false c.block-check-check.ensures.checked c.loop-i.invariant
+    copied_all c.args.block.now c.args.part.now c.loop-i.part c.loop-i.i c.block_check-check.result
+    c.requires (omega arith) c.loop-i-test.false c.block_check-check.ensures.checked c.loop-i.invariant

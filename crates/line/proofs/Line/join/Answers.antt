@@ -1,6 +1,6 @@
 use Rattle.std.proofs.Common.{◌+◌, drop, sym, refl, ap, ◌∙◌, inl, inr, arith}
 use Rattle.line.proofs.Line.join.Goals as goal
-use Rattle.line.proofs.Line.join.Goals.{then-len-gt0-via-else-len-gt0+then-self-ge-MOST-ENDS, then-len-gt0-via-then-len-gt0}
+use Rattle.line.proofs.Line.join.Goals.{then-len-gt0-via-else-len-gt0+then-self-ge-MOST_ENDS, then-len-gt0-via-then-len-gt0}
 use Rattle.line.proofs.Lines.{no_flights, none_sent, opened, shut}
 use Rattle.line.specs.Bursts.{flight, flights}
 use Rattle.line.specs.Lines.{view}
@@ -15,16 +15,16 @@ returns-then-len-gt0 c =
       | then-len-gt0-via-then-len-gt0 w ↦
           let s = shut (view l) (inl (omega (arith, w.if-len-gt0.true, c.len.ensures, l.bursts.ok.0))) in
           record { answer = s.0; after = s.1; silent = tt; refused = refl }
-      | then-len-gt0-via-else-len-gt0+then-self-ge-MOST-ENDS w ↦
-          let s = shut (view l) (inr w.if-self-ge-MOST-ENDS.true) in
+      | then-len-gt0-via-else-len-gt0+then-self-ge-MOST_ENDS w ↦
+          let s = shut (view l) (inr w.if-self-ge-MOST_ENDS.true) in
           record { answer = s.0; after = s.1; silent = tt; refused = refl }
     ]
 
-pub invariant-of-self : goal.invariant-of-self
-invariant-of-self c =
+pub invariant_of-self : goal.invariant_of-self
+invariant_of-self c =
     let l = c.args.self.now in
     let none = no_flights l.ends (l.ends + 1) l.bursts.items (omega (arith, l.bursts.ok.0)) in
-    (omega arith, (l.past, (l.counted ∙ ap (λ fs. pairs (drop l.quiet fs)) none, tt)))
+    record { most = omega arith; past = l.past; counted = l.counted ∙ ap (λ fs. pairs (drop l.quiet fs)) none }
 
 pub returns : goal.returns
 returns c =
@@ -33,7 +33,7 @@ returns c =
     let none = no_flights (l.ends + 1) l.ends bs (omega (arith, l.bursts.ok.0)) in
     let long = length-map bs (flight l.ends) in
     let long' = length-map bs (flight (l.ends + 1)) in
-    let s = opened (view l) (omega (arith, l.bursts.ok.0)) c.if-self-ge-MOST-ENDS.false in
+    let s = opened (view l) (omega (arith, l.bursts.ok.0)) c.if-self-ge-MOST_ENDS.false in
     record {
       answer = s.0;
       after = ap (λ fs. record { bursts = fs; quiet = l.quiet; ends = l.ends + 1 }) none ∙ s.1;

@@ -5,9 +5,9 @@ use Rattle.line.specs.Bursts.{flight, flights}
 use Rattle.line.specs.Ways.{pairs}
 use Rattle.std.proofs.lemmas.List.{length-map}
 
-pub invariant-of-result : goal.invariant-of-result
+pub invariant_of-result : goal.invariant_of-result
 unfolding pairs
-invariant-of-result c = (omega arith, (omega arith, (sym (ap (λ bs. pairs (flights 1 bs)) c.new.ensures.items), tt)))
+invariant_of-result c = record { most = omega arith; past = omega arith; counted = sym (ap (λ bs. pairs (flights 1 bs)) c.new.ensures.items) }
 
 pub returns : goal.returns
 returns c =

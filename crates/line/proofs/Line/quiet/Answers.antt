@@ -6,14 +6,14 @@ use Rattle.line.specs.Lines.{view}
 use Rattle.line.specs.Ways.{pairs, way}
 use Rattle.std.proofs.lemmas.List.{drop_all, length-map}
 
-pub invariant-of-self : goal.invariant-of-self
+pub invariant_of-self : goal.invariant_of-self
 unfolding pairs
-invariant-of-self c =
+invariant_of-self c =
     let l = c.args.self.now in
     let n = c.len-self.result in
     let fs = flights l.ends l.bursts.items in
     let long = length-map l.bursts.items (flight l.ends) in
-    (l.most, (omega arith, (sym (ap pairs (drop_all n fs (omega (arith, l.bursts.ok.0)))), tt)))
+    record { most = l.most; past = omega arith; counted = sym (ap pairs (drop_all n fs (omega (arith, l.bursts.ok.0)))) }
 
 pub returns : goal.returns
 returns c =

@@ -18,9 +18,9 @@ pub returns-in-Done-default : goal.returns-in-Done-default
 unfolding link_after
 returns-in-Done-default c = search rules
 
-pub returns-in-Done-default·2 : goal.returns-in-Done-default·2
+pub returns-in-Done-default-2 : goal.returns-in-Done-default·2
 unfolding link_after
-returns-in-Done-default·2 c = search rules
+returns-in-Done-default-2 c = search rules
 
 pub returns-in-Confirmed-default : goal.returns-in-Confirmed-default
 unfolding link_after

@@ -6,18 +6,18 @@ pub returns-in-Single : goal.returns-in-Single
 unfolding verdict
 returns-in-Single c = search rules
 
-pub returns-in-err-check-sender : goal.returns-in-err-check-sender
+pub returns-in_err-check_sender-in-Fixed : goal.returns-in_err-check_sender-in-Fixed
 unfolding verdict
-returns-in-err-check-sender c = search rules
+returns-in_err-check_sender-in-Fixed c = search rules
 
-pub returns-in-err-check-sender-2 : goal.returns-in-err-check-sender-2
+pub returns-in_err-check_sender-in-Variable : goal.returns-in_err-check_sender-in-Variable
 unfolding verdict
-returns-in-err-check-sender-2 c = search rules
+returns-in_err-check_sender-in-Variable c = search rules
 
-pub returns-in-ok-check-sender : goal.returns-in-ok-check-sender
+pub returns-in_ok-check_sender-in-Fixed : goal.returns-in_ok-check_sender-in-Fixed
 unfolding verdict
-returns-in-ok-check-sender c = search rules
+returns-in_ok-check_sender-in-Fixed c = search rules
 
-pub returns-in-ok-check-sender-2 : goal.returns-in-ok-check-sender-2
+pub returns-in_ok-check_sender-in-Variable : goal.returns-in_ok-check_sender-in-Variable
 unfolding verdict
-returns-in-ok-check-sender-2 c = search rules
+returns-in_ok-check_sender-in-Variable c = search rules

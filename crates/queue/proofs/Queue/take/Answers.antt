@@ -3,9 +3,9 @@ use Rattle.queue.specs.Ring.{capacity}
 use Rattle.queue.proofs.Held.{some_oldest, has_record, refused_take, after_take}
 use Rattle.queue.proofs.Queue.take.Goals as goal
 
-pub returns-in-default : goal.returns-in-default
-returns-in-default g c =
-    let p = refused_take g.S.Slots.items c.args.self.now c.in-default.ensures in
+pub returns-in_default : goal.returns-in_default
+returns-in_default g c =
+    let p = refused_take g.S.Slots.items c.args.self.now c.in_default.ensures in
     record {
       answer = ap Err c.of.ensures ∙ p.0;
       held = p.1;
@@ -15,24 +15,24 @@ returns-in-default g c =
       refused = refl {a = c.args.self.now};
     }
 
-pub overflow-sub-last : goal.overflow-sub-last
-overflow-sub-last g c =
+pub overflow_sub-last : goal.overflow_sub-last
+overflow_sub-last g c =
     let h = has_record g.S.Slots.items c.args.self.now (some_oldest _ _ c.in-Some.ensures).0 in
     let k = c.count-last.ensures in
     omega arith
 
-pub next-slot-self-requires : goal.next-slot-self-requires
-next-slot-self-requires g c =
+pub next_slot-self-requires : goal.next_slot-self-requires
+next_slot-self-requires g c =
     let h = has_record g.S.Slots.items c.args.self.now (some_oldest _ _ c.in-Some.ensures).0 in
     let k = c.count-last.ensures in
     omega arith
 
-pub overflow-sub-self : goal.overflow-sub-self
-overflow-sub-self g c =
+pub overflow_sub-self : goal.overflow_sub-self
+overflow_sub-self g c =
     let h = has_record g.S.Slots.items c.args.self.now (some_oldest _ _ c.in-Some.ensures).0 in
     omega arith
 
 pub returns : goal.returns
 returns g c =
-    let p = after_take g.S.Slots.items c.args.self.now _ c.in-Some.x c.count-last.result c.in-Some.ensures c.count-last.ensures refl c.next-slot-self.ensures refl in
+    let p = after_take g.S.Slots.items c.args.self.now _ c.in-Some.x c.count-last.result c.in-Some.ensures c.count-last.ensures refl c.next_slot-self.ensures refl in
     record { answer = p.0; held = p.1; room = p.2; store = refl {a = c.args.self.now.slots}; first = p.3; refused = tt }

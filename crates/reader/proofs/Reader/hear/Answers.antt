@@ -14,8 +14,8 @@ written :
     ⊥
 written longest frame t buffer f room e = grind (arith, nat_tests)
 
-pub returns-in-err-count : goal.returns-in-err-count
-returns-in-err-count g c =
+pub returns-in_err-count : goal.returns-in_err-count
+returns-in_err-count g c =
     let F = g.F.Format in
     let room : F.longest ≤ length c.args.buffer.now = omega arith in
-    absurd (written F.longest F.frame c.in-ok-answer.field-0.answer c.args.buffer.now _ room c.in-err-count.ensures.answer)
+    absurd (written F.longest F.frame c.in_ok-answer.field-0.answer c.args.buffer.now _ room c.in_err-count.ensures.answer)

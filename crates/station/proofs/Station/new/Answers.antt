@@ -13,7 +13,7 @@ same_slots a {k1} {k2} {k} {n1} {n2} {n} p q r =
 
 pub returns : goal.returns
 returns g c =
-    let begun = c.over.ensures ∙ same_slots c.args.address c.in-ok-class1.ensures c.in-ok-class2.ensures c.in-ok-inbox.ensures in
+    let begun = c.over.ensures ∙ same_slots c.args.address c.in_ok-class1.ensures c.in_ok-class2.ensures c.in_ok-inbox.ensures in
     let fitting : Fitting = record { address = c.args.address; slots1 = c.args.slots1; slots2 = c.args.slots2; slots = c.args.slots } in
     record {
       begun = (begun, c.new.ensures);

@@ -11,13 +11,13 @@ use Rattle.station.specs.Shown.{books_of, reader_of}
 use Rattle.station.specs.declared.Refusal.TheVariants as refusal
 use Rattle.std.proofs.lemmas.Result.{err_from_is_err_and}
 
-pub returns-in-err-offer : goal.returns-in-err-offer
-returns-in-err-offer g c =
+pub returns-in_err-offer : goal.returns-in_err-offer
+returns-in_err-offer g c =
     let x = c.args.self.now in
-    let e = c.in-err-offer.ensures in
-    let r = c.from-residual-in-err-offer.result in
-    let p = err_from_is_err_and r c.from-residual-in-err-offer.ensures.1 in
-    let is : r ≡ Err (refusal.Fault c.in-err-offer.field-0.0) = p.1 ∙ ap Err p.2 in
+    let e = c.in_err-offer.ensures in
+    let r = c.from_residual-in_err-offer.result in
+    let p = err_from_is_err_and r c.from_residual-in_err-offer.ensures.1 in
+    let is : r ≡ Err (refusal.Fault c.in_err-offer.field-0.0) = p.1 ∙ ap Err p.2 in
     let had : no_memory r ≡ false = ap no_memory is in
     let moved = unless_lacking (no_memory r) (reader_of x) had e.moved in
     let noted = unless_lacking (no_memory r) (books_of x) had (c.reserve.ensures.kept ∙ declined_seen (offer c.args.class c.args.octets.now (reader_of x)) _ (books_of x) e.answer) in
@@ -32,9 +32,9 @@ pub returns : goal.returns
 returns g c =
     let x = c.args.self.now in
     let v = books_of x in
-    let e = c.in-ok-offer.ensures in
+    let e = c.in_ok-offer.ensures in
     let noted =
-    c.in-ok-offered.ensures.noted ∙
+    c.in_ok-offered.ensures.noted ∙
     ap (λ k. class_seen c.of.result k) c.reserve.ensures.kept ∙
     ap (λ k. class_seen k v) c.of.ensures ∙
     accepted_seen (message_answer c.args.octets.now) (class_of c.args.class) (reader_of x) v e.answer in
