@@ -46,7 +46,7 @@ pub fn check(repetitions: u8, arrivals: usize, reports: usize) -> Result<(), Fau
 
 // A buffer has room for the longest frame, whatever is written.
 fn check_buffer<F: Format>(buffer: &[u16]) -> Result<(), Fault>
-    ensures { result ≡ must (not (nat_lt (length buffer.now) longest)) (fault ShortBuffer 0) (Ok tt) }
+    ensures { result ≡ must (not (nat_lt (length buffer.now) F.longest)) (fault ShortBuffer 0) (Ok tt) }
 {
     if buffer.len() < F::limits().longest {
         return Err(Fault::of(Cause::ShortBuffer));
@@ -120,10 +120,10 @@ impl<P: Slots<Item = Arrival>, Q: Slots<Item = Report>, F: Format> Concentrator<
 
     // Opens the exchange of a request and writes its frame. Refused with 17, 18, 19.
     fn open(&mut self, station: u8, request: Request, buffer: &mut [u16]) -> Result<usize, Fault>
-        requires { longest ≤ length buffer.old }
-        ensures answer { result ≡ sent_answer frame (request_as (Ok request) station (view P.Slots.items Q.Slots.items self.old)) }
+        requires { F.longest ≤ length buffer.old }
+        ensures answer { result ≡ sent_answer F.frame (request_as (Ok request) station (view P.Slots.items Q.Slots.items self.old)) }
         ensures moved { view P.Slots.items Q.Slots.items self.new ≡ sent_after (request_as (Ok request) station (view P.Slots.items Q.Slots.items self.old)) (view P.Slots.items Q.Slots.items self.old) }
-        ensures written { buffer.new ≡ sent_buffer frame (request_as (Ok request) station (view P.Slots.items Q.Slots.items self.old)) buffer.old }
+        ensures written { buffer.new ≡ sent_buffer F.frame (request_as (Ok request) station (view P.Slots.items Q.Slots.items self.old)) buffer.old }
         ensures refused { OnErr result (self.new ≡ self.old) }
         ensures kept { Roomy (view P.Slots.items Q.Slots.items self.old) → Roomy (view P.Slots.items Q.Slots.items self.new) }
     {
@@ -173,9 +173,9 @@ impl<P: Slots<Item = Arrival>, Q: Slots<Item = Report>, F: Format> Concentrator<
 
     // Asks a station to set its link anew, and unsets it here until it has. Refused, in this order, with 20, 14, 17, 19.
     pub fn reset(&mut self, station: u8, buffer: &mut [u16]) -> Result<usize, Fault>
-        ensures answer { result ≡ sent_answer frame (requested (nat_lt (length buffer.old) longest) station for_reset (view P.Slots.items Q.Slots.items self.old)) }
-        ensures moved { view P.Slots.items Q.Slots.items self.new ≡ sent_after (requested (nat_lt (length buffer.old) longest) station for_reset (view P.Slots.items Q.Slots.items self.old)) (view P.Slots.items Q.Slots.items self.old) }
-        ensures written { buffer.new ≡ sent_buffer frame (requested (nat_lt (length buffer.old) longest) station for_reset (view P.Slots.items Q.Slots.items self.old)) buffer.old }
+        ensures answer { result ≡ sent_answer F.frame (requested (nat_lt (length buffer.old) F.longest) station for_reset (view P.Slots.items Q.Slots.items self.old)) }
+        ensures moved { view P.Slots.items Q.Slots.items self.new ≡ sent_after (requested (nat_lt (length buffer.old) F.longest) station for_reset (view P.Slots.items Q.Slots.items self.old)) (view P.Slots.items Q.Slots.items self.old) }
+        ensures written { buffer.new ≡ sent_buffer F.frame (requested (nat_lt (length buffer.old) F.longest) station for_reset (view P.Slots.items Q.Slots.items self.old)) buffer.old }
         ensures refused { OnErr result (self.new ≡ self.old) }
         ensures kept { Roomy (view P.Slots.items Q.Slots.items self.old) → Roomy (view P.Slots.items Q.Slots.items self.new) }
     {
@@ -186,9 +186,9 @@ impl<P: Slots<Item = Arrival>, Q: Slots<Item = Report>, F: Format> Concentrator<
 
     // Asks a station for its status. Refused with 20, 14, 17, 19.
     pub fn status(&mut self, station: u8, buffer: &mut [u16]) -> Result<usize, Fault>
-        ensures answer { result ≡ sent_answer frame (requested (nat_lt (length buffer.old) longest) station for_status (view P.Slots.items Q.Slots.items self.old)) }
-        ensures moved { view P.Slots.items Q.Slots.items self.new ≡ sent_after (requested (nat_lt (length buffer.old) longest) station for_status (view P.Slots.items Q.Slots.items self.old)) (view P.Slots.items Q.Slots.items self.old) }
-        ensures written { buffer.new ≡ sent_buffer frame (requested (nat_lt (length buffer.old) longest) station for_status (view P.Slots.items Q.Slots.items self.old)) buffer.old }
+        ensures answer { result ≡ sent_answer F.frame (requested (nat_lt (length buffer.old) F.longest) station for_status (view P.Slots.items Q.Slots.items self.old)) }
+        ensures moved { view P.Slots.items Q.Slots.items self.new ≡ sent_after (requested (nat_lt (length buffer.old) F.longest) station for_status (view P.Slots.items Q.Slots.items self.old)) (view P.Slots.items Q.Slots.items self.old) }
+        ensures written { buffer.new ≡ sent_buffer F.frame (requested (nat_lt (length buffer.old) F.longest) station for_status (view P.Slots.items Q.Slots.items self.old)) buffer.old }
         ensures refused { OnErr result (self.new ≡ self.old) }
         ensures kept { Roomy (view P.Slots.items Q.Slots.items self.old) → Roomy (view P.Slots.items Q.Slots.items self.new) }
     {
@@ -199,9 +199,9 @@ impl<P: Slots<Item = Arrival>, Q: Slots<Item = Report>, F: Format> Concentrator<
 
     // Sends a message to a station. Refused with 20, 14, 15, 17, 18, 19.
     pub fn send(&mut self, station: u8, octets: &[u8], buffer: &mut [u16]) -> Result<usize, Fault>
-        ensures answer { result ≡ sent_answer frame (requested (nat_lt (length buffer.old) longest) station (for_send octets.now) (view P.Slots.items Q.Slots.items self.old)) }
-        ensures moved { view P.Slots.items Q.Slots.items self.new ≡ sent_after (requested (nat_lt (length buffer.old) longest) station (for_send octets.now) (view P.Slots.items Q.Slots.items self.old)) (view P.Slots.items Q.Slots.items self.old) }
-        ensures written { buffer.new ≡ sent_buffer frame (requested (nat_lt (length buffer.old) longest) station (for_send octets.now) (view P.Slots.items Q.Slots.items self.old)) buffer.old }
+        ensures answer { result ≡ sent_answer F.frame (requested (nat_lt (length buffer.old) F.longest) station (for_send octets.now) (view P.Slots.items Q.Slots.items self.old)) }
+        ensures moved { view P.Slots.items Q.Slots.items self.new ≡ sent_after (requested (nat_lt (length buffer.old) F.longest) station (for_send octets.now) (view P.Slots.items Q.Slots.items self.old)) (view P.Slots.items Q.Slots.items self.old) }
+        ensures written { buffer.new ≡ sent_buffer F.frame (requested (nat_lt (length buffer.old) F.longest) station (for_send octets.now) (view P.Slots.items Q.Slots.items self.old)) buffer.old }
         ensures refused { OnErr result (self.new ≡ self.old) }
         ensures kept { Roomy (view P.Slots.items Q.Slots.items self.old) → Roomy (view P.Slots.items Q.Slots.items self.new) }
     {
@@ -213,9 +213,9 @@ impl<P: Slots<Item = Arrival>, Q: Slots<Item = Report>, F: Format> Concentrator<
 
     // Asks a station for its oldest message of a class. Refused with 20, 14, 16, 17, 18, 19.
     pub fn poll(&mut self, station: u8, class: u8, buffer: &mut [u16]) -> Result<usize, Fault>
-        ensures answer { result ≡ sent_answer frame (requested (nat_lt (length buffer.old) longest) station (for_poll class) (view P.Slots.items Q.Slots.items self.old)) }
-        ensures moved { view P.Slots.items Q.Slots.items self.new ≡ sent_after (requested (nat_lt (length buffer.old) longest) station (for_poll class) (view P.Slots.items Q.Slots.items self.old)) (view P.Slots.items Q.Slots.items self.old) }
-        ensures written { buffer.new ≡ sent_buffer frame (requested (nat_lt (length buffer.old) longest) station (for_poll class) (view P.Slots.items Q.Slots.items self.old)) buffer.old }
+        ensures answer { result ≡ sent_answer F.frame (requested (nat_lt (length buffer.old) F.longest) station (for_poll class) (view P.Slots.items Q.Slots.items self.old)) }
+        ensures moved { view P.Slots.items Q.Slots.items self.new ≡ sent_after (requested (nat_lt (length buffer.old) F.longest) station (for_poll class) (view P.Slots.items Q.Slots.items self.old)) (view P.Slots.items Q.Slots.items self.old) }
+        ensures written { buffer.new ≡ sent_buffer F.frame (requested (nat_lt (length buffer.old) F.longest) station (for_poll class) (view P.Slots.items Q.Slots.items self.old)) buffer.old }
         ensures refused { OnErr result (self.new ≡ self.old) }
         ensures kept { Roomy (view P.Slots.items Q.Slots.items self.old) → Roomy (view P.Slots.items Q.Slots.items self.new) }
     {
@@ -230,12 +230,12 @@ impl<P: Slots<Item = Arrival>, Q: Slots<Item = Report>, F: Format> Concentrator<
     // No answer came: writes the same frame again, or ends the exchange in doubt, answers 0 and writes nothing. Refused
     // with 20, 13.
     pub fn time_out(&mut self, buffer: &mut [u16]) -> Result<usize, Fault>
-        ensures answer { result ≡ timed_answer frame (time_out (nat_lt (length buffer.old) longest) (view P.Slots.items Q.Slots.items self.old)) }
-        ensures moved { view P.Slots.items Q.Slots.items self.new ≡ timed_after (time_out (nat_lt (length buffer.old) longest) (view P.Slots.items Q.Slots.items self.old)) (view P.Slots.items Q.Slots.items self.old) }
-        ensures written { buffer.new ≡ timed_buffer frame (time_out (nat_lt (length buffer.old) longest) (view P.Slots.items Q.Slots.items self.old)) buffer.old }
+        ensures answer { result ≡ timed_answer F.frame (time_out (nat_lt (length buffer.old) F.longest) (view P.Slots.items Q.Slots.items self.old)) }
+        ensures moved { view P.Slots.items Q.Slots.items self.new ≡ timed_after (time_out (nat_lt (length buffer.old) F.longest) (view P.Slots.items Q.Slots.items self.old)) (view P.Slots.items Q.Slots.items self.old) }
+        ensures written { buffer.new ≡ timed_buffer F.frame (time_out (nat_lt (length buffer.old) F.longest) (view P.Slots.items Q.Slots.items self.old)) buffer.old }
         ensures refused { OnErr result (self.new ≡ self.old) }
         ensures kept { Roomy (view P.Slots.items Q.Slots.items self.old) → Roomy (view P.Slots.items Q.Slots.items self.new) }
-        ensures appended { Roomy (view P.Slots.items Q.Slots.items self.old) → DoubtAppends (time_out (nat_lt (length buffer.old) longest) (view P.Slots.items Q.Slots.items self.old)) (view P.Slots.items Q.Slots.items self.old) (view P.Slots.items Q.Slots.items self.new) }
+        ensures appended { Roomy (view P.Slots.items Q.Slots.items self.old) → DoubtAppends (time_out (nat_lt (length buffer.old) F.longest) (view P.Slots.items Q.Slots.items self.old)) (view P.Slots.items Q.Slots.items self.old) (view P.Slots.items Q.Slots.items self.new) }
     {
         check_buffer::<F>(buffer)?;
         let Some(mut exchange) = self.exchange else {
@@ -253,11 +253,11 @@ impl<P: Slots<Item = Arrival>, Q: Slots<Item = Report>, F: Format> Concentrator<
 
     // Hears a burst, and ends the exchange if it is an answer to it. Refused with the faults of reading, 13, 8, 9, 10.
     pub fn hear(&mut self, burst: &[u16]) -> Result<Outcome, Fault>
-        ensures answer { result ≡ heard_answer (hear (telegram_read (verdict burst.now)) (view P.Slots.items Q.Slots.items self.old)) }
-        ensures moved { view P.Slots.items Q.Slots.items self.new ≡ heard_after (hear (telegram_read (verdict burst.now)) (view P.Slots.items Q.Slots.items self.old)) (view P.Slots.items Q.Slots.items self.old) }
+        ensures answer { result ≡ heard_answer (hear (telegram_read (F.verdict burst.now)) (view P.Slots.items Q.Slots.items self.old)) }
+        ensures moved { view P.Slots.items Q.Slots.items self.new ≡ heard_after (hear (telegram_read (F.verdict burst.now)) (view P.Slots.items Q.Slots.items self.old)) (view P.Slots.items Q.Slots.items self.old) }
         ensures refused { OnErr result (self.new ≡ self.old) }
         ensures kept { Roomy (view P.Slots.items Q.Slots.items self.old) → Roomy (view P.Slots.items Q.Slots.items self.new) }
-        ensures appended { Roomy (view P.Slots.items Q.Slots.items self.old) → HearAppends (flags_read (telegram_read (verdict burst.now))) (hear (telegram_read (verdict burst.now)) (view P.Slots.items Q.Slots.items self.old)) (view P.Slots.items Q.Slots.items self.old) (view P.Slots.items Q.Slots.items self.new) }
+        ensures appended { Roomy (view P.Slots.items Q.Slots.items self.old) → HearAppends (flags_read (telegram_read (F.verdict burst.now))) (hear (telegram_read (F.verdict burst.now)) (view P.Slots.items Q.Slots.items self.old)) (view P.Slots.items Q.Slots.items self.old) (view P.Slots.items Q.Slots.items self.new) }
     {
         let telegram = read_telegram::<F>(burst)?;
         let Some(exchange) = self.exchange else {

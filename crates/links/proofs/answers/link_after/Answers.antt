@@ -18,7 +18,7 @@ pub returns-in-Done-default : goal.returns-in-Done-default
 unfolding link_after
 returns-in-Done-default c = search rules
 
-pub returns-in-Done-default-2 : goal.returns-in-Done-default·2
+pub returns-in-Done-default-2 : goal.returns-in-Done-default-2
 unfolding link_after
 returns-in-Done-default-2 c = search rules
 
