@@ -7,9 +7,9 @@ use Rattle.readers.proofs.Readers.ask.Goals as goal
 pub returns-in-Some : goal.returns-in-Some
 returns-in-Some g c =
     let r = c.args.self.now in
-    let x = c.index-mut.result.now in
+    let x = c.index_mut.result.now in
     let e = c.in-Some.ensures in
-    let q = c.index-mut.ensures.value in
+    let q = c.index_mut.ensures.value in
     let s = c.asked.ensures in
     record {
       shown = one_called c.args.address r c.in-Some.i x e.place q e.inside c.asked.new.self (λ y. cond (is_ok c.asked.result) (asked c.args.request y) y) s.shown;

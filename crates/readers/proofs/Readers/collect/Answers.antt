@@ -10,9 +10,9 @@ use Rattle.readers.proofs.Readers.collect.Goals as goal
 pub returns-in-Some : goal.returns-in-Some
 returns-in-Some g c =
     let r = c.args.self.now in
-    let x = c.index-mut.result.now in
+    let x = c.index_mut.result.now in
     let e = c.in-Some.ensures in
-    let q = c.index-mut.ensures.value in
+    let q = c.index_mut.ensures.value in
     let s = c.collect.ensures in
     record {
       answer = ap Some s.answer ∙ sym (ap (option_map (λ y. take_answer y.reader.inbox.records)) (here c.args.address r c.in-Some.i x e.place q e.inside));

@@ -12,9 +12,9 @@ use Rattle.readers.proofs.Readers.hear.Goals as goal
 pub returns-in-Some : goal.returns-in-Some
 returns-in-Some g c =
     let r = c.args.self.now in
-    let x = c.index-mut.result.now in
+    let x = c.index_mut.result.now in
     let e = c.in-Some.ensures in
-    let q = c.index-mut.ensures.value in
+    let q = c.index_mut.ensures.value in
     let s = c.hear.ensures in
     let F = g.F.Format in
     let z = no_memory c.hear.result in

@@ -6,6 +6,6 @@ use Rattle.site.specs.Sites.{seen}
 
 pub returns : goal.returns
 returns g c =
-    let s = c.fetch-arrival.ensures in
+    let s = c.fetch_arrival.ensures in
     let m = seen c.args.self.now in
     record { answer = s.answer; steps = λ w st. arrival_taken g.F.Format m _ w st refl refl s.moved (fetched_shows m.concentrator.arrivals.records m.readers) }

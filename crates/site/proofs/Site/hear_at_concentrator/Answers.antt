@@ -16,17 +16,17 @@ returns g c =
     let F = g.F.Format in
     let k = c.args.k in
     let m = seen c.args.self.now in
-    let m₁ = seen c.make-ready.new.self in
+    let m₁ = seen c.make_ready.new.self in
     let m₂ : Memory = record { concentrator = view vec_items vec_items c.hear-outcome.new.self; readers = m₁.readers; line = m₁.line; started = m₁.started } in
     let m' = seen c.conclude.new.self in
     let r = c.conclude.result in
     let heard = c.in-Ok.heard.items in
-    let on = sym c.if-not-is-on-way.ensures in
+    let on = sym c.if-not-is_on_way.ensures in
     let p = c.in-Ok.ensures in
     let s = c.hear-outcome.ensures in
     let v = c.deref.ensures.value in
     let came = hearings_come F g.met.F.Format.size m m₁ m₂ m' k heard c.exchange-exchange.result c.exchange-exchange.ensures c.hear-outcome.result r
-    c.make-ready.ensures.same refl refl
+    c.make_ready.ensures.same refl refl
     (s.answer ∙ ap (λ l. heard_answer (hear (telegram_read (F.verdict l)) m₁.concentrator)) v)
     (s.moved ∙ ap (λ l. heard_after (hear (telegram_read (F.verdict l)) m₁.concentrator) m₁.concentrator) v)
     on p.damaged c.conclude.ensures in

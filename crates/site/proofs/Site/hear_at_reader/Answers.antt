@@ -28,15 +28,15 @@ returns-in-Some-hear g c =
     let new = c.hear.new.marked in
     let next : place + 1 ≡ suc place = omega arith in
     let placed = c.in-Some.ensures.place in
-    let on : on_way (suc place) k m.line ≡ true = ap (λ n. on_way n k m.line) (sym next) ∙ sym c.if-not-is-on-way.ensures in
+    let on : on_way (suc place) k m.line ≡ true = ap (λ n. on_way n k m.line) (sym next) ∙ sym c.if-not-is_on_way.ensures in
     let p = c.in-Ok.ensures in
     let q = c.in-Ok-prepare.ensures in
     let s = c.in-Some-hear.ensures in
     let symbols = symbols_of (sent_at k m.line) in
     let damage = c.args.damage.now in
-    let came = turns_come F g.met.F.Format.size m m₁ m' c.args.places c.deref.result.now heard c.deref-mut.result.now c.hear.new.buffer c.number-of-number.result
-    (readers c.hear.new.self) a place k c.in-Some-hear.answer old new r q.same (ap length c.deref-mut.ensures.value ∙ q.buffer) c.deref.ensures.value
-    (c.number-of-number.ensures ∙ ap (λ z. number_of (sent_at k z.line)) q.same) placed on p.damaged
+    let came = turns_come F g.met.F.Format.size m m₁ m' c.args.places c.deref.result.now heard c.deref_mut.result.now c.hear.new.buffer c.number_of-number.result
+    (readers c.hear.new.self) a place k c.in-Some-hear.answer old new r q.same (ap length c.deref_mut.ensures.value ∙ q.buffer) c.deref.ensures.value
+    (c.number_of-number.ensures ∙ ap (λ z. number_of (sent_at k z.line)) q.same) placed on p.damaged
     (record {
       told_so = s.answer;
       kept_so = s.kept;
@@ -44,7 +44,7 @@ returns-in-Some-hear g c =
       shown_so = s.shown;
       unmade_so = s.unmade;
       answered_so = answered_filled a (place + 1) (suc place) k c.in-Some-hear.answer c.in-Ok-prepare.buffer.len c.hear.new.buffer _ (with_readers (readers c.hear.new.self) m₁) m' r
-          next (c.hear.auto.buffer ∙ c.deref-mut.ensures.len) c.answer.ensures;
+          next (c.hear.auto.buffer ∙ c.deref_mut.ensures.len) c.answer.ensures;
     }) in
     record {
       answer = at_reader r (place_of a m.readers) place (λ end. on_way end k m.line) (hearing F.width F.guard damage.cut (vec_items damage.flips) symbols) heard

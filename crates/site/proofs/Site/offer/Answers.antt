@@ -11,6 +11,6 @@ returns-in-Some g c =
     let s = c.in-Some.ensures in
     let t = c.settle.ensures in
     let os = c.args.octets.now in
-    let k = offers_come g.F.Format m (seen c.settle.new.self) (readers c.offer.new.self) c.args.address c.args.class os c.are-octets.ensures
+    let k = offers_come g.F.Format m (seen c.settle.new.self) (readers c.offer.new.self) c.args.address c.args.class os c.are_octets.ensures
     (λ x. told (offer_answer (offer c.args.class os x.reader))) c.in-Some.answer c.settle.result t.answer t.moved s.shown s.unmade s.answer in
     record { answer = k.0; steps = k.1 }

@@ -19,6 +19,6 @@ returns g c =
     let p = c.in-Ok.ensures in
     let s = c.poll-sent.ensures in
     let k = requests_come g.F.Format (seen c.args.self.now) (seen c.prepare.new.self) _ (seen c.transmit.new.self) c.args.places c.args.station (for_poll c.args.class) tt
-    c.deref-mut.result.now _ c.poll-sent.result c.transmit.result p.same (ap length c.deref-mut.ensures.value ∙ p.buffer) refl refl s.answer s.moved
-    (filled c.in-Ok.buffer.len c.poll-sent.new.buffer _ (c.poll-sent.auto.buffer ∙ c.deref-mut.ensures.len) ∙ s.written) c.transmit.ensures in
+    c.deref_mut.result.now _ c.poll-sent.result c.transmit.result p.same (ap length c.deref_mut.ensures.value ∙ p.buffer) refl refl s.answer s.moved
+    (filled c.in-Ok.buffer.len c.poll-sent.new.buffer _ (c.poll-sent.auto.buffer ∙ c.deref_mut.ensures.len) ∙ s.written) c.transmit.ensures in
     record { answer = k.0; steps = k.1 }

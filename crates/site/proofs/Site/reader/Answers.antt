@@ -6,6 +6,6 @@ pub returns : goal.returns
 returns g c =
     record {
       answer = c.get.ensures;
-      theorem = c.two-ends-hold.ensures;
-      account = accounted g.F.Format c.two-ends-hold.ensures (seen c.args.self.now) c.args.address;
+      theorem = c.two_ends_hold.ensures;
+      account = accounted g.F.Format c.two_ends_hold.ensures (seen c.args.self.now) c.args.address;
     }

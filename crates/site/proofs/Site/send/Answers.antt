@@ -18,7 +18,7 @@ pub returns : goal.returns
 returns g c =
     let p = c.in-Ok.ensures in
     let s = c.send-sent.ensures in
-    let k = requests_come g.F.Format (seen c.args.self.now) (seen c.prepare.new.self) _ (seen c.transmit.new.self) c.args.places c.args.station (for_send c.args.octets.now) c.are-octets.ensures
-    c.deref-mut.result.now _ c.send-sent.result c.transmit.result p.same (ap length c.deref-mut.ensures.value ∙ p.buffer) refl refl s.answer s.moved
-    (filled c.in-Ok.buffer.len c.send-sent.new.buffer _ (c.send-sent.auto.buffer ∙ c.deref-mut.ensures.len) ∙ s.written) c.transmit.ensures in
+    let k = requests_come g.F.Format (seen c.args.self.now) (seen c.prepare.new.self) _ (seen c.transmit.new.self) c.args.places c.args.station (for_send c.args.octets.now) c.are_octets.ensures
+    c.deref_mut.result.now _ c.send-sent.result c.transmit.result p.same (ap length c.deref_mut.ensures.value ∙ p.buffer) refl refl s.answer s.moved
+    (filled c.in-Ok.buffer.len c.send-sent.new.buffer _ (c.send-sent.auto.buffer ∙ c.deref_mut.ensures.len) ∙ s.written) c.transmit.ensures in
     record { answer = k.0; steps = k.1 }
