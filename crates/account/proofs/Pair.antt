@@ -7,7 +7,7 @@ use Rattle.account.specs.Ledger.{AllEnded, AllMarked, HandOutsCome, Handed, HasE
 use Rattle.account.specs.declared.books.HandOut.{HandOut}
 use Rattle.account.specs.declared.books.Item.{Item}
 use Rattle.account.specs.declared.books.OfferState.TheVariants.{Marked}
-use Rattle.account.specs.declared.books.SendState.TheVariants.{Ended, Open as Is-open}
+use Rattle.account.specs.declared.books.SendState.TheVariants.{Ended, Open as IsOpen}
 use Rattle.account.specs.declared.books.Sending.{Sending}
 use Rattle.fault.specs.declared.Fault.{Fault}
 use Rattle.frame.specs.Controls.{bit}
@@ -83,7 +83,7 @@ abbrev pub item : ℕ → Message → Item
 item n m = record { number = n; message = m }
 
 abbrev pub open_sending : ℕ → Message → Sending
-open_sending n m = record { item = item n m; state = Is-open }
+open_sending n m = record { item = item n m; state = IsOpen }
 
 -- the open send is the newest, and has not entered
 pub data Untaken (v : View) : Request → Type 0 where

@@ -2,7 +2,7 @@
 use Rattle.std.proofs.Common.{◌≡◌, ℕ, zero, suc, ◌+◌, ◌-◌, ◌≤◌, Bool, true, false, cond, eqb, List, [], ◌∷◌, ◌++◌, map, reverse, length, get_or, set, Some, None, Ok, Option, sym, refl, ap, ◌∙◌, subst, add-one, arith}
 use mathlib.Core.List.{reverse-cons}
 use lib.Dec.{eqb-zero-suc}
-use Rattle.account.specs.Books.{Down, Up, Station, arrives as account-arrives, asked, by_class, collected, ended as account-ended, ended_down, ends_send, enters as account-enters, hands, marks, newest_hand_out, newest_sent, offered as account-offered, oldest_number, restarted, turned, waiting as account-waiting, with_handed}
+use Rattle.account.specs.Books.{Down, Up, Station, arrives as account_arrives, asked, by_class, collected, ended as account_ended, ended_down, ends_send, enters as account_enters, hands, marks, newest_hand_out, newest_sent, offered as account_offered, oldest_number, restarted, turned, waiting as account_waiting, with_handed}
 use Rattle.account.specs.Line.{Fitting, new_station}
 use Rattle.account.specs.declared.books.HandOut.{HandOut}
 use Rattle.account.specs.declared.books.Item.{Item}
@@ -85,7 +85,7 @@ shows_closed (Poll c) e v s h = h
 
 -- what arrived, after an ending
 abbrev brought_up : ℕ → Ending → Up → Up
-brought_up n e u = record { offered = u.offered; waiting1 = u.waiting1; waiting2 = u.waiting2; handed = u.handed; arrived = account-arrives n e u.arrived; fetched = u.fetched }
+brought_up n e u = record { offered = u.offered; waiting1 = u.waiting1; waiting2 = u.waiting2; handed = u.handed; arrived = account_arrives n e u.arrived; fetched = u.fetched }
 
 shows_brought : (n : ℕ) (e : Ending) (v : Seen) (s : Station) → Shows v s → Shows (brought_seen n (outcome_of e) v) (record { reader = s.reader; down = s.down; up = brought_up n e s.up })
 shows_brought n ending.Done v s h = h
@@ -109,7 +109,7 @@ shows_brought n ending.Empty v s h = h
 shows_brought n ending.Unserved v s h = h
 shows_brought n ending.Doubted v s h = h
 
-pub shows_ended : (n : ℕ) (r : Request) (e : Ending) (v : Seen) (s : Station) → Shows v s → Shows (ended_seen n r (outcome_of e) v) (account-ended n r e s)
+pub shows_ended : (n : ℕ) (r : Request) (e : Ending) (v : Seen) (s : Station) → Shows v s → Shows (ended_seen n r (outcome_of e) v) (account_ended n r e s)
 shows_ended n r e v s h =
     shows_closed r e (brought_seen n (outcome_of e) v) (record { reader = s.reader; down = s.down; up = brought_up n e s.up }) (shows_brought n e v s h)
 
@@ -126,13 +126,13 @@ either_given : (c : Class) (P : ℕ → Type 0) (a x : List ℕ) → All P a →
 either_given First P a x p q = p
 either_given Second P a x p q = q
 
-waits_shown : (c : Class) (v : SeenUp) (u : Up) → ShowsUp v u → waiting c v ≡ numbers (account-waiting c u)
+waits_shown : (c : Class) (v : SeenUp) (u : Up) → ShowsUp v u → waiting c v ≡ numbers (account_waiting c u)
 waits_shown c v u h = either_shown c u.waiting1 u.waiting2 h.waiting1 h.waiting2
 
 waits_given : (c : Class) (v : SeenUp) (u : Up) → ShowsUp v u → All (Given v) (waiting c v)
 waits_given c v u h = either_given c (Given v) v.waiting1 v.waiting2 h.given1 h.given2
 
-pub shows_offered : (o : rd.Offered) (v : Seen) (s : Station) → Shows v s → Shows (offered_seen o v) (account-offered o s)
+pub shows_offered : (o : rd.Offered) (v : Seen) (s : Station) → Shows v s → Shows (offered_seen o v) (account_offered o s)
 shows_offered (rd.declined f) v s h = h
 shows_offered (rd.accepted c m r) v s h =
     let u = h.1 in
@@ -141,18 +141,18 @@ shows_offered (rd.accepted c m r) v s h =
     let w = waiting c v.up in
     let more : (n : ℕ) → P n → Q n = λ n le. omega (arith, length_push v.up.offers Waiting) in
     let item : Item = record { number = length s.up.offered + 1; message = m } in
-    let next : w ++ ((length v.up.offers + 1) ∷ []) ≡ numbers (account-waiting c s.up ++ (item ∷ [])) =
+    let next : w ++ ((length v.up.offers + 1) ∷ []) ≡ numbers (account_waiting c s.up ++ (item ∷ [])) =
     ap (λ k. w ++ ((k + 1) ∷ [])) u.accepted ∙
     ap (λ l. l ++ (item.number ∷ [])) (waits_shown c v.up s.up u) ∙
-    sym (map_push (λ i. i.number) (account-waiting c s.up) item) in
+    sym (map_push (λ i. i.number) (account_waiting c s.up) item) in
     let all_next : All Q (w ++ ((length v.up.offers + 1) ∷ [])) =
     All-push Q w (length v.up.offers + 1) (All-weaker P Q more w (waits_given c v.up s.up u)) (omega (arith, length_push v.up.offers Waiting)) in (
       h.0,
       record {
         accepted = length_push v.up.offers Waiting ∙ ap (λ n. n + 1) u.accepted ∙ add-one (length s.up.offered);
         offers = λ n. getD_more v.up.offers n Waiting ∙ u.offers n;
-        waiting1 = either_shown c (account-waiting c s.up ++ (item ∷ [])) s.up.waiting1 next u.waiting1;
-        waiting2 = either_shown c s.up.waiting2 (account-waiting c s.up ++ (item ∷ [])) u.waiting2 next;
+        waiting1 = either_shown c (account_waiting c s.up ++ (item ∷ [])) s.up.waiting1 next u.waiting1;
+        waiting2 = either_shown c s.up.waiting2 (account_waiting c s.up ++ (item ∷ [])) u.waiting2 next;
         newest = u.newest;
         arrived = u.arrived;
         given1 = either_given c Q (w ++ ((length v.up.offers + 1) ∷ [])) v.up.waiting1 all_next (All-weaker P Q more v.up.waiting1 u.given1);
@@ -219,7 +219,7 @@ left_given P [] h = tt
 left_given P (n ∷ l) h = h.1
 
 abbrev entered_down : ℕ → Deed → Down → Down
-entered_down n d b = record { sends = b.sends; entered = account-enters n d b.entered; collected = b.collected; resets = b.resets }
+entered_down n d b = record { sends = b.sends; entered = account_enters n d b.entered; collected = b.collected; resets = b.resets }
 
 shows_taken : (n : ℕ) (d : Deed) (v : Seen) (s : Station) → Shows v s → Shows (cond (took_in d) (enters n v) v) (record { reader = s.reader; down = entered_down n d s.down; up = s.up })
 shows_taken n still v s h = h
@@ -244,7 +244,7 @@ shows_given (gave c m) v s h =
     let w = waiting c v.up in
     let j = first_of w in
     let l = v.up.offers in
-    let items = account-waiting c s.up in
+    let items = account_waiting c s.up in
     let Q = Given (handed c v).up in
     let number : j ≡ oldest_number items = ap first_of (waits_shown c v.up s.up u) ∙ first_shown items in
     let left : take_contents w ≡ numbers (take_contents items) = ap take_contents (waits_shown c v.up s.up u) ∙ left_shown items in

@@ -5,7 +5,7 @@ ghost use Rattle.reader.specs.Hearing.{Follows, heard_answer, heard_buffer, hear
 ghost use Rattle.reader.specs.View.{view};
 ghost use Rattle.rules.specs.Functions.{function_of};
 ghost use Rattle.rules.specs.Queues.{holding};
-ghost use Rattle.rules.specs.Reader.{addressed, answer as answer-to, asked, class_queue, dfc, give_out, hear_after, hear_telegram, mark_heard, record_after, repeat, reset, take_in, with_class, with_link};
+ghost use Rattle.rules.specs.Reader.{addressed, answer as answer_to, asked, class_queue, dfc, give_out, hear_after, hear_telegram, mark_heard, record_after, repeat, reset, take_in, with_class, with_link};
 ghost use Rattle.std.specs.Prelude.{◌≡◌, false, Some, None, Ok, OnErr};
 
 use crate::{Heard, Reader};
@@ -112,7 +112,7 @@ impl<S: Slots<Item = Message>, F: Format> Reader<S, F> {
         message: Option<Message>,
         marked: &mut Message,
     ) -> Result<Response, Fault>
-        ensures turn { Follows (answer-to (asked (function_of (code_of control.octet)) (bit 16 control.octet) (bit 32 control.octet) message) (view S.items self.old)) (view S.items self.old) (view S.items self.new) marked.old marked.new result }
+        ensures turn { Follows (answer_to (asked (function_of (code_of control.octet)) (bit 16 control.octet) (bit 32 control.octet) message) (view S.items self.old)) (view S.items self.old) (view S.items self.new) marked.old marked.new result }
         ensures refused { OnErr result (self.new ≡ self.old) }
     {
         let fcv = control.fcv();
@@ -137,7 +137,7 @@ impl<S: Slots<Item = Message>, F: Format> Reader<S, F> {
 
     // Sets the link; the ACK is not stored.
     fn reset(&mut self, marked: &mut Message) -> Response
-        ensures turn { Follows (answer-to reset (view S.items self.old)) (view S.items self.old) (view S.items self.new) marked.old marked.new (Ok result) }
+        ensures turn { Follows (answer_to reset (view S.items self.old)) (view S.items self.old) (view S.items self.new) marked.old marked.new (Ok result) }
     {
         self.link = Link::reset();
         self.stored = None;

@@ -1,6 +1,6 @@
 // What a reader hears of the bursts on the line, and the answer that it sends.
 ghost use Rattle.account.specs.Line.{reader_hears};
-ghost use Rattle.damage.specs.Damages.{heard as heard-of, hearing as damaging};
+ghost use Rattle.damage.specs.Damages.{heard as heard_of, hearing as damaging};
 ghost use Rattle.line.specs.Lines.{room};
 ghost use Rattle.line.specs.Ways.{on_way, sent_at};
 ghost use Rattle.readers.specs.Readers.{at, place_of};
@@ -73,7 +73,7 @@ impl<F: Format> Site<F> {
     ) -> Result<Answer, Trouble>
         ensures answer { result ≡ (if no_memory result then Err trouble.OutOfMemory else at_end (option_map suc (place_of address (seen self.old).readers)) (λ end. (if on_way end k (seen self.old).line then undamaged (damaging F.width F.guard damage.now.cut damage.now.flips.items (symbols_of (sent_at k (seen self.old).line))) (λ heard. answered_as (seen self.old) (option_map (λ x. hear (nat_lt places F.longest) (telegram_read (F.verdict heard)) x.reader) (at address (seen self.old).readers))) else Err trouble.NotOnWay))) }
         ensures kept { marked.new ≡ marked_by result (at address (seen self.old).readers) marked.old }
-        ensures steps { Leads F.Format (is_made result) (seen self.old) (seen self.new) (λ w. reader_hears (nat_lt places F.longest) address (k - 1) (burst_of k w) (heard-of damage.now.cut damage.now.flips.items (symbols_of (sent_at k (seen self.old).line)))) }
+        ensures steps { Leads F.Format (is_made result) (seen self.old) (seen self.new) (λ w. reader_hears (nat_lt places F.longest) address (k - 1) (burst_of k w) (heard_of damage.now.cut damage.now.flips.items (symbols_of (sent_at k (seen self.old).line)))) }
     {
         let Some(place) = self.readers.find(address) else {
             return Err(Trouble::NoReader);

@@ -1,6 +1,6 @@
 // What the ends hear of the bursts on the line, and what the line loses.
 ghost use Rattle.account.specs.Line.{concentrator_hears, loses, loses_all};
-ghost use Rattle.damage.specs.Damages.{heard as heard-of, hearing as damaging};
+ghost use Rattle.damage.specs.Damages.{heard as heard_of, hearing as damaging};
 ghost use Rattle.frame.specs.Damage.{Damaged, Fits};
 ghost use Rattle.line.specs.Ways.{on_way, sent_at};
 ghost use Rattle.readers.specs.Readers.{place_of};
@@ -78,7 +78,7 @@ impl<F: Format> Site<F> {
     // The concentrator hears burst k: read's faults, 13, 8, 9, 10.
     pub fn hear_at_concentrator(&mut self, k: usize, damage: &Damage) -> Result<Outcome, Trouble>
         ensures answer { result ≡ (if no_memory result then Err trouble.OutOfMemory else (if on_way 0 k (seen self.old).line then undamaged (damaging F.width F.guard damage.now.cut damage.now.flips.items (symbols_of (sent_at k (seen self.old).line))) (λ heard. told (heard_answer (hear (telegram_read (F.verdict heard)) (seen self.old).concentrator))) else Err trouble.NotOnWay)) }
-        ensures steps { Leads F.Format (is_made result) (seen self.old) (seen self.new) (λ w. concentrator_hears (k - 1) (burst_of k w) (heard-of damage.now.cut damage.now.flips.items (symbols_of (sent_at k (seen self.old).line)))) }
+        ensures steps { Leads F.Format (is_made result) (seen self.old) (seen self.new) (λ w. concentrator_hears (k - 1) (burst_of k w) (heard_of damage.now.cut damage.now.flips.items (symbols_of (sent_at k (seen self.old).line)))) }
     {
         if !self.line.is_on_way(0, k) {
             return Err(Trouble::NotOnWay);

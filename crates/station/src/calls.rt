@@ -1,5 +1,5 @@
 // A reader's own calls, with what they write into its books.
-ghost use Rattle.account.specs.Books.{collected as account-collected, offered, restarted as account-restarted};
+ghost use Rattle.account.specs.Books.{collected as account_collected, offered, restarted as account_restarted};
 ghost use Rattle.books.specs.Calls.{marked_seen, offered_seen};
 ghost use Rattle.queue.specs.Fifo.{take_answer};
 ghost use Rattle.rules.specs.Reader.{collected, marked as mark_of, offer, offer_after, offer_answer, record_after, restarted};
@@ -34,7 +34,7 @@ impl<F: Format> Station<F> {
         ensures answer { result ≡ take_answer (reader_of self.old).inbox.records }
         ensures moved { reader_of self.new ≡ collected (reader_of self.old) }
         ensures noted { books_of self.new ≡ books_of self.old }
-        ensures shown { ShownChange self.old self.new account-collected }
+        ensures shown { ShownChange self.old self.new account_collected }
     {
         self.reader.collect()
     }
@@ -45,7 +45,7 @@ impl<F: Format> Station<F> {
         ensures moved { reader_of self.new ≡ restarted (reader_of self.old) }
         ensures kept { marked.new ≡ record_after (mark_of Doubtful (reader_of self.old).out) (reader_of self.old).out marked.old }
         ensures noted { books_of self.new ≡ marked_seen (mark_of Doubtful (reader_of self.old).out) (books_of self.old) }
-        ensures shown { ShownChange self.old self.new account-restarted }
+        ensures shown { ShownChange self.old self.new account_restarted }
     {
         let mark = self.reader.restart(marked);
         self.books.marked(mark);

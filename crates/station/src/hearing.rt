@@ -4,7 +4,7 @@ ghost use Rattle.reader.specs.Hearing.{heard_answer, heard_buffer, hearing};
 ghost use Rattle.rules.specs.Reader.{hear_after, mark_heard, record_after};
 ghost use Rattle.station.specs.Noted.{shorter};
 ghost use Rattle.station.specs.Refusals.{no_memory, told};
-ghost use Rattle.station.specs.Shown.{ShownChange, books_of, heard as account-heard, reader_of};
+ghost use Rattle.station.specs.Shown.{ShownChange, books_of, heard as account_heard, reader_of};
 ghost use Rattle.station.specs.declared.Refusal.TheVariants.{Memory};
 ghost use Rattle.std.specs.Prelude.{◌≡◌, if◌then◌else◌, Err};
 
@@ -28,7 +28,7 @@ impl<F: Format> Station<F> {
         ensures kept { marked.new ≡ (if no_memory result then marked.old else record_after (mark_heard (hearing F.Format burst.now buffer.old (reader_of self.old))) (reader_of self.old).out marked.old) }
         ensures written { buffer.new ≡ (if no_memory result then buffer.old else heard_buffer F.Format (hearing F.Format burst.now buffer.old (reader_of self.old)) buffer.old) }
         ensures noted { books_of self.new ≡ (if no_memory result then books_of self.old else heard_seen number (hearing F.Format burst.now buffer.old (reader_of self.old)) (books_of self.old)) }
-        ensures shown { ShownChange self.old self.new (λ s. (if no_memory result then s else account-heard number (hearing F.Format burst.now buffer.old s.reader) s)) }
+        ensures shown { ShownChange self.old self.new (λ s. (if no_memory result then s else account_heard number (hearing F.Format burst.now buffer.old s.reader) s)) }
     {
         self.books.reserve()?;
         let first = self.reader.waiting(Class::First);

@@ -31,7 +31,8 @@ impl Answer {
     }
 
     pub fn say<D: fmt::Display + Drop>(&mut self, words: D) -> fmt::Result {
-        write!(self.text, "{words}")
+        write!(self.text, "{words}")?;
+        Ok(())
     }
 
     // Octets, each after a blank.
@@ -112,7 +113,8 @@ impl Answer {
         let acd = u8::from(report.flags.acd);
         let dfc = u8::from(report.flags.dfc);
         let sent = report.transmissions;
-        write!(self.text, " acd {acd} dfc {dfc} sent {sent}")
+        write!(self.text, " acd {acd} dfc {dfc} sent {sent}")?;
+        Ok(())
     }
 
     pub fn arrival(&mut self, arrival: Arrival) -> fmt::Result {
@@ -131,13 +133,15 @@ impl Answer {
     }
 
     pub fn error(&mut self, line: u64, mistake: Mistake<'_>) -> fmt::Result {
-        writeln!(self.text, "error {line}: {mistake}")
+        writeln!(self.text, "error {line}: {mistake}")?;
+        Ok(())
     }
 
     pub fn refused(&mut self, fault: Fault) -> fmt::Result {
         let number = fault.number();
         let layer = fault.layer();
         let place = fault.place;
-        write!(self.text, "refused {number} {layer} {place}")
+        write!(self.text, "refused {number} {layer} {place}")?;
+        Ok(())
     }
 }

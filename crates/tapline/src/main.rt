@@ -2,7 +2,6 @@
 // argument, carries each out on the library, and answers on standard output.
 #![tactic(auto)]
 
-mod account;
 mod answer;
 mod arguments;
 mod bench;
@@ -13,6 +12,7 @@ mod input;
 mod mistake;
 mod on_site;
 mod session;
+mod site_account;
 mod site_command;
 
 use anyhow::anyhow;

@@ -1,10 +1,10 @@
 // A whole line: a concentrator, its readers, and bursts that are heard, damaged or lost.
-use crate::account::account;
 use crate::answer::Answer;
 use crate::bench::octet_of;
 use crate::command::{ConcentratorCall, ConcentratorPlan, FormatName, ReaderPlan, Wish};
 use crate::frames::symbol_digits;
 use crate::mistake::Mistake;
+use crate::site_account::account;
 use crate::site_command::{End, SiteCall};
 use damage::{Damage, DamageError};
 use frame::Format;
