@@ -1,7 +1,7 @@
 -- What holds of a line after every run.
 use Rattle.std.proofs.Common.{◌≡◌, ℕ, zero, suc, ◌-◌, Bool, true, false, cond, eqb, List, [], ◌∷◌, ◌++◌, map, length, get_or, set, replicate, Some, None, Ok, Err, Option, Result, sym, refl, ap, ◌∙◌, subst, arith, length-set, eqb-true}
 use Rattle.account.proofs.Bursts.{alive, dead_refused, dead_wrong, keep, left_elsewhere, lost_kept, none_kept, none_left, only_left, word}
-use Rattle.account.proofs.Calls.{Asked, Ends, Offers, Timing, Turns, accepts, asks, closes, declined, doubts, gives, has_none, hears, is_busy, offers, opened, repeats, resets, says_again, says_so, takes, times, turns}
+use Rattle.account.proofs.Calls.{Asked, Ends, Offers, Timing, Turns, accepts, asks, closes, doubts, gives, has_none, hears, is_busy, offers, opened, repeats, resets, says_again, says_so, takes, times, turns}
 use Rattle.account.proofs.Hearing.{Good}
 use Rattle.account.proofs.Pair.{Live, Open, Pair, alive_back, coming, going, never_set, none_flies, nowhere, open_for, pair_doubt, pair_opens, pair_restart, request_flies, rest, shut, view}
 use Rattle.account.proofs.State.{Known, Ready, Stands, State, answer_ends, answered_state, ended_state, heard_good, heard_none, heard_request, known_some, link_changed, live_at, live_in, open_at, pair_lost, sent_state, shown_back, shown_to, stands_kept, state_left, to_case}

@@ -3,7 +3,7 @@
 use Rattle.std.proofs.Common.{◌≡◌, ℕ, ◌+◌, Bool, true, false, cond, eqb, List, [], ◌∷◌, ◌++◌, map, reverse, length, Some, None, Ok, Err, Option, Result, sym, refl, ap, ◌∙◌, subst, append_assoc, append-nil, arith}
 use mathlib.Core.List.{map-append, reverse-append, reverse-cons}
 use lib.ListN.{length-map}
-use Rattle.account.proofs.Calls.{Asked, Ends, Offers, Timing, Turns, accepts, asks, closes, declined, doubts, gives, has_none, hears, is_busy, offers, opened, repeats, resets, says_again, says_so, takes, times, turns}
+use Rattle.account.proofs.Calls.{Asked, Ends, Offers, Timing, Turns, accepts, asks, closes, doubts, gives, has_none, hears, is_busy, offers, opened, repeats, resets, says_again, says_so, takes, times, turns}
 use Rattle.account.proofs.Hearing.{after}
 use Rattle.account.proofs.Invariant.{collect_view}
 use Rattle.account.proofs.Room.{room_run}

@@ -1,7 +1,7 @@
 -- Every burst says what a frame can carry; the guard law speaks of such only.
 use Rattle.std.proofs.Common.{◌≡◌, ℕ, zero, suc, ◌-◌, ◌<◌, ◌≤◌, Bool, true, false, cond, ◌||◌, leb, List, [], ◌∷◌, ◌++◌, map, length, get_or, take, set, replicate, Some, None, Ok, Err, Option, Result, sym, refl, ap, ◌∙◌, subst, arith, take_all}
 use lib.Seq.{take-append_seam}
-use Rattle.account.proofs.Calls.{Asked, Ends, Offers, Proper, ProperRequest, Timing, Turns, accepts, asks, closes, declined, doubts, gives, has_none, hears, is_busy, offers, opened, repeats, resets, says_again, says_so, takes, times, turns}
+use Rattle.account.proofs.Calls.{Asked, Ends, Offers, Proper, ProperRequest, Timing, Turns, accepts, asks, closes, doubts, gives, has_none, hears, is_busy, offers, opened, repeats, resets, says_again, says_so, takes, times, turns}
 use Rattle.account.proofs.Stations.{all_append, all_changed, all_found}
 use Rattle.account.specs.Account.{Apart}
 use Rattle.account.specs.Books.{Station, fetched, found, turned}

@@ -1,5 +1,5 @@
 -- Each entry in the books of memory shows what the account's books then have.
-use Rattle.std.proofs.Common.{◌≡◌, ℕ, zero, suc, ◌+◌, ◌-◌, ◌≤◌, Bool, true, false, cond, eqb, List, [], ◌∷◌, ◌++◌, map, reverse, length, get_or, set, Some, None, Ok, Option, sym, refl, ap, ◌∙◌, subst, add-one, arith}
+use Rattle.std.proofs.Common.{◌≡◌, ℕ, suc, ◌+◌, ◌-◌, cond, eqb, List, [], ◌∷◌, ◌++◌, map, reverse, length, set, Some, None, Ok, Option, sym, refl, ap, ◌∙◌, add-one, arith}
 use mathlib.Core.List.{reverse-cons}
 use lib.Dec.{eqb-zero-suc}
 use Rattle.account.specs.Books.{Down, Up, Station, arrives as account_arrives, asked, by_class, collected, ended as account_ended, ended_down, ends_send, enters as account_enters, hands, marks, newest_hand_out, newest_sent, offered as account_offered, oldest_number, restarted, turned, waiting as account_waiting, with_handed}
@@ -14,7 +14,7 @@ use Rattle.account.specs.declared.books.Sending.{Sending}
 use Rattle.books.proofs.States.{cond_again, getD_more, set_last, with_state_at, with_state_length}
 use Rattle.books.specs.Calls.{asked_seen, brought_seen, class_given, closed_seen, ended_seen, handed_seen, heard_seen, marked_seen, offered_seen}
 use Rattle.books.specs.Seen.{Seen, SeenUp, enters, first_of, handed, marked, nothing_seen, offered, waiting, with_newest}
-use Rattle.books.specs.Shows.{Given, Shows, ShowsDown, ShowsUp, numbers, state_of}
+use Rattle.books.specs.Shows.{Given, Shows, ShowsUp, numbers, state_of}
 use Rattle.queue.specs.Fifo.{take_contents}
 use Rattle.rules.specs.Reader as rd
 use Rattle.rules.specs.Reader.{Deed, Turn, still, took, took_in, busy, gave, bare}

@@ -1,5 +1,5 @@
 -- The worked cases of the link.
-use Rattle.std.specs.Prelude.{◌≡◌, ℕ, true, false, List, [], ◌∷◌, map, replicate, Some, Err}
+use Rattle.std.specs.Prelude.{◌≡◌, ℕ, List, [], ◌∷◌, map, replicate, Some, Err}
 use Rattle.cases.specs.Exchanges.{answer_of, heard, hears, linked5, reader5, send5, sent, silence}
 use Rattle.fault.specs.Causes.{fault}
 use Rattle.fault.specs.declared.Cause.TheVariants.{LinkUnset}
@@ -8,7 +8,7 @@ use Rattle.ft3.specs.Cases.{Cases as Ft3-cases}
 use Rattle.ft12.specs.Symbols.{symbol_of}
 use Rattle.rules.specs.Concentrator.{no_flags}
 use Rattle.rules.specs.Messages.{message_of}
-use Rattle.rules.specs.Reader.{collected, mark_heard, record_after}
+use Rattle.rules.specs.Reader.{collected, mark_heard}
 use Rattle.rules.specs.declared.message.Message.{Message}
 use Rattle.rules.specs.declared.records.Mark.TheVariants.{Settled}
 use Rattle.rules.specs.declared.records.Outcome.TheVariants.{Doubtful}

@@ -1,15 +1,11 @@
 -- Bursts in FT1.2, given by their octets, at a reader and at a concentrator.
-use Rattle.std.specs.Prelude.{ℕ, true, false, List, [], ◌∷◌, map, replicate, Some, None, Ok, Err, Result}
-use Rattle.fault.specs.Causes.{number_of}
+use Rattle.std.specs.Prelude.{ℕ, false, List, [], ◌∷◌, map, None, Ok, Err, Result}
 use Rattle.fault.specs.declared.Fault.{Fault}
 use Rattle.ft12.specs.Frames.{frame_of}
 use Rattle.ft12.specs.Symbols.{symbol_of}
 use Rattle.ft12.specs.Verdicts.{verdict_of}
-use Rattle.rules.specs.Concentrator as concentrator
-use Rattle.rules.specs.Concentrator.{Concentrator, Ended, Sent, Timed, again, doubted, for_send, new_concentrator, request, time_out, with_station}
+use Rattle.rules.specs.Concentrator.{Concentrator, Sent, Timed, again, doubted, for_send, new_concentrator, request, time_out, with_station}
 use Rattle.rules.specs.Links.{reset_link}
-use Rattle.rules.specs.Messages.{message_of}
-use Rattle.rules.specs.Queues.{Held}
 use Rattle.rules.specs.Reader as reader
 use Rattle.rules.specs.Reader.{Reader, Turn, hear_after}
 use Rattle.rules.specs.Telegrams.{carried, telegram_read}

@@ -1,7 +1,7 @@
 -- Lemmas on the words of a text: blanks before them, and the first of them.
-use Rattle.std.proofs.Common.{◌≡◌, ℕ, suc, ◌+◌, Bool, true, false, cond, not, eqb, List, [], ◌∷◌, length, take, drop, sym, refl, ap, ◌∙◌, inl, inr, one-add, arith, true-eqb}
+use Rattle.std.proofs.Common.{◌≡◌, ℕ, suc, true, false, eqb, List, [], ◌∷◌, length, take, drop, sym, refl, ap, ◌∙◌, inl, inr, one-add, arith, true-eqb}
 use Rattle.console.specs.Words.{after_word, blank, first_word, is_a, not_empty, onto, parts_of, unblanked, words_of}
-use Rattle.console.specs.declared.words.Kind.TheVariants.{Blank, Word}
+use Rattle.console.specs.declared.words.Kind.TheVariants.{Word}
 use Rattle.std.proofs.lemmas.Bool.{cases_Bool}
 use Rattle.std.specs.List.{prefix_len}
 

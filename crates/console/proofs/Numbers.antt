@@ -1,5 +1,5 @@
 -- Lemmas on the value of digits, as the loop over a word goes through them.
-use Rattle.std.proofs.Common.{◌≡◌, ℕ, ◌+◌, ◌*◌, ◌<◌, ◌≤◌, min, false, cond, eqb, List, [], ◌∷◌, length, get_or, drop, Some, None, Err, Option, sym, refl, ap, ◌∙◌, inl, inr, arith}
+use Rattle.std.proofs.Common.{◌≡◌, ℕ, ◌+◌, ◌*◌, ◌<◌, ◌≤◌, min, false, eqb, List, [], ◌∷◌, length, get_or, drop, Some, None, Err, refl, ap, inl, inr, arith}
 use Rattle.std.proofs.lemmas.Bool.{cases_lt}
 use Rattle.console.specs.Numbers.{and_then, base_of, digit_of, limited, number_of, value_after}
 use Rattle.console.specs.declared.number.NumberFault.TheVariants.{NoNumber}

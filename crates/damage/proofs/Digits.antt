@@ -1,5 +1,5 @@
 -- One bit of a number, and how many bits an exclusive or has.
-use Rattle.std.proofs.Common.{◌≡◌, ℕ, zero, suc, ◌+◌, ◌-◌, ◌*◌, ◌/◌, ◌%◌, ◌^◌, ◌<◌, ◌≤◌, Bool, true, false, ◌||◌, eqb, ◌⊎◌, sym, refl, ap, ◌∙◌, ap₂, ⊎_elim, zero-add, arith}
+use Rattle.std.proofs.Common.{◌≡◌, ℕ, zero, suc, ◌+◌, ◌-◌, ◌*◌, ◌/◌, ◌%◌, ◌^◌, ◌<◌, ◌≤◌, Bool, true, false, ◌||◌, eqb, sym, refl, ap, ◌∙◌, ap₂, ⊎_elim, zero-add, arith}
 use lib.Arith.{half_le}
 use lib.Bits.{bit_xor, xor_assoc, xor_comm, xor_mod, xor_self, xor_shr}
 use lib.Count.{ones, ones_cat, ones-le, ones-ones, ones_step}

@@ -1,5 +1,5 @@
 -- What is heard is the burst, damaged within the guard.
-use Rattle.std.proofs.Common.{◌≡◌, ℕ, zero, suc, ◌+◌, ◌^◌, ◌<◌, ◌≤◌, Bool, true, false, cond, not, ltb, leb, List, [], ◌∷◌, length, get_or, take, set, Some, None, Ok, Err, Option, Result, Vec, sym, refl, ap, ◌∙◌, subst, arith}
+use Rattle.std.proofs.Common.{◌≡◌, ℕ, zero, suc, ◌+◌, ◌^◌, ◌<◌, ◌≤◌, Bool, true, false, cond, not, leb, List, [], ◌∷◌, length, get_or, take, set, Some, None, Ok, Option, Result, Vec, sym, refl, ap, ◌∙◌, subst, arith}
 use lib.Bits.{bit_xor, xor_assoc, xor_lt}
 use lib.Count.{ones}
 use Rattle.damage.proofs.Digits.{one_of_pow, self_ones, xor_ones}

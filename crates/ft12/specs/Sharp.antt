@@ -1,5 +1,5 @@
 -- How many inverted bits can pass unseen in FT1.2.
-use Rattle.std.specs.Prelude.{◌≡◌, ℕ, ◌≢◌}
+use Rattle.std.specs.Prelude.{ℕ, ◌≢◌}
 use Rattle.frame.specs.Contents.{Meaning, Valid}
 use Rattle.frame.specs.Damage.{Damaged}
 use Rattle.ft12.specs.Frames.{frame_of}

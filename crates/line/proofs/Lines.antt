@@ -7,7 +7,7 @@ use Rattle.line.specs.Lines.{view}
 use Rattle.line.specs.Ways.{Flight, Silent, View, arrived, as_sent, burst_at, changed_at, join_answer, joined, landed, marked, on_way, open_to_join, pairs, trues, under_way, way}
 use Rattle.line.specs.declared.Line.{Line}
 use Rattle.line.specs.declared.burst.Burst.{Burst}
-use Rattle.std.proofs.lemmas.List.{drop_all, drop-map, get_or_past, length-drop, length-map, length-take, map_push, take-replicate}
+use Rattle.std.proofs.lemmas.List.{drop_all, drop-map, get_or_past, length-drop, length-take, map_push, take-replicate}
 use Rattle.std.proofs.lemmas.Option.{slice_get_past, slice_get_read}
 use Rattle.std.proofs.lemmas.Bool.{and_from, and_left, and_right, both_ways, cases_lt, cond-false, cond-true, eq-eqb, false≢true, le-ltb, lt-ltb, ne_eqb}
 use Rattle.std.specs.Option.{option_map}

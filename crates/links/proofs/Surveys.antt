@@ -1,7 +1,7 @@
 -- A survey on its way: what the buffer has once the stations below one have been looked at.
-use Rattle.std.proofs.Common.{◌≡◌, ℕ, suc, ◌+◌, ◌-◌, ◌<◌, ◌≤◌, Bool, true, false, cond, ◌&&◌, eqb, ltb, List, [], ◌∷◌, ◌++◌, length, take, drop, set, sym, refl, ap, ◌∙◌, arith}
+use Rattle.std.proofs.Common.{◌≡◌, ℕ, suc, ◌+◌, ◌-◌, ◌<◌, ◌≤◌, true, false, cond, ◌&&◌, eqb, ltb, List, [], ◌∷◌, ◌++◌, length, take, drop, set, sym, refl, ap, ◌∙◌, arith}
 use Rattle.rules.specs.Links.{link_at}
-use Rattle.rules.specs.Survey.{Surveyed, is_set, occurrences, set_count}
+use Rattle.rules.specs.Survey.{is_set, occurrences, set_count}
 use Rattle.rules.specs.declared.link.Link.{Link}
 use Rattle.std.proofs.lemmas.List.{drop-drop, drop-set-lt, take_more_set}
 use Rattle.std.proofs.lemmas.Bool.Decides.{nat_tests}

@@ -1,5 +1,5 @@
 -- The readers of a line by their addresses: the one that is found, a change of it, and its partner in memory.
-use Rattle.std.proofs.Common.{◌≡◌, ℕ, zero, suc, ◌<◌, ◌≤◌, Bool, true, false, cond, eqb, List, [], ◌∷◌, ◌++◌, map, length, get_or, set, Some, None, Option, sym, refl, ap, ◌∙◌, subst, ap₂, arith}
+use Rattle.std.proofs.Common.{◌≡◌, ℕ, zero, suc, ◌<◌, ◌≤◌, Bool, true, false, cond, eqb, List, [], ◌∷◌, length, get_or, set, Some, None, sym, refl, ap, ◌∙◌, subst, ap₂, arith}
 use Rattle.account.proofs.Stations.{turned_round}
 use Rattle.account.specs.Books.{Station, change, found}
 use Rattle.readers.proofs.Places.{paired_at, paired_set}

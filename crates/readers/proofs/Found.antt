@@ -1,5 +1,5 @@
 -- The reader of an address: the one in memory, its place, and its partner on the line.
-use Rattle.std.proofs.Common.{◌≡◌, ℕ, zero, suc, ◌<◌, ◌≤◌, Bool, true, false, cond, not, eqb, List, [], ◌∷◌, ◌++◌, map, length, get_or, set, Some, None, vec_items, vec_len, Option, sym, refl, ap, ◌∙◌, subst, ap₂, arith}
+use Rattle.std.proofs.Common.{◌≡◌, ℕ, zero, suc, ◌<◌, Bool, true, false, cond, not, eqb, List, [], ◌∷◌, map, length, get_or, set, Some, None, vec_items, vec_len, Option, sym, refl, ap, ◌∙◌, subst, ap₂, arith}
 use Rattle.account.specs.Books as account
 use Rattle.account.specs.Books.{change, found}
 use Rattle.readers.proofs.Addresses.{change_none, found_none, none_there, one_changed, one_found}

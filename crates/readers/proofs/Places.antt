@@ -1,5 +1,5 @@
 -- Lists, place by place: one list, and two whose elements are in pairs.
-use Rattle.std.proofs.Common.{◌≡◌, ℕ, zero, suc, ◌+◌, ◌<◌, ◌≤◌, Bool, false, List, [], ◌∷◌, ◌++◌, map, length, get_or, set, replicate, Some, None, sym, refl, ap, ◌∙◌, ⊎_elim, arith}
+use Rattle.std.proofs.Common.{◌≡◌, ℕ, zero, suc, ◌<◌, false, List, [], ◌∷◌, ◌++◌, map, length, get_or, set, replicate, Some, refl, ap, arith}
 use Rattle.readers.specs.Pairs.{Paired}
 use Rattle.std.specs.Option.{option_map}
 use Rattle.std.specs.List.{slice_get}

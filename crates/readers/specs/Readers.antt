@@ -1,5 +1,5 @@
 -- Readers by their addresses, in memory and on the line.
-use Rattle.std.specs.Prelude.{◌≡◌, ℕ, suc, Bool, true, false, cond, not, List, [], ◌∷◌, ◌++◌, map, Some, None, vec_items, Option, Result, ◌==◌, slice_index_or}
+use Rattle.std.specs.Prelude.{◌≡◌, ℕ, suc, Bool, false, cond, not, List, [], ◌∷◌, ◌++◌, map, Some, None, vec_items, Option, Result, ◌==◌, slice_index_or}
 use Rattle.account.specs.Books as account
 use Rattle.account.specs.Books.{newest_hand_out}
 use Rattle.account.specs.Line.{Fitting, new_station}

@@ -21,7 +21,6 @@ use Rattle.rules.specs.declared.records.Ending.{Ending}
 use Rattle.rules.specs.declared.records.Ending.TheVariants as ending
 use Rattle.rules.specs.declared.records.Exchange.{Exchange}
 use Rattle.rules.specs.declared.records.Flags.{Flags}
-use Rattle.rules.specs.declared.records.Function.{Function}
 use Rattle.rules.specs.declared.records.Function.TheVariants as fn
 use Rattle.rules.specs.declared.records.Reply.{Reply}
 use Rattle.rules.specs.declared.records.Reply.TheVariants as reply

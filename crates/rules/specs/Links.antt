@@ -1,5 +1,5 @@
 -- The link between the concentrator and one reader, as either of them holds it.
-use Rattle.std.specs.Prelude.{ℕ, ◌-◌, true, false, not, List, set, slice_index_or, slice_set}
+use Rattle.std.specs.Prelude.{ℕ, ◌-◌, true, false, not, List, slice_index_or, slice_set}
 use Rattle.rules.specs.declared.link.Link.{Link}
 
 -- as every link begins

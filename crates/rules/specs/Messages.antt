@@ -1,5 +1,5 @@
 -- Messages, by their octets.
-use Rattle.std.specs.Prelude.{ℕ, Bool, cond, ◌&&◌, List, length, take, replicate, Ok, Err, Result, nat_le}
+use Rattle.std.specs.Prelude.{ℕ, Bool, cond, ◌&&◌, List, length, take, Ok, Err, Result, nat_le}
 use Rattle.fault.specs.Causes.{fault}
 use Rattle.fault.specs.declared.Cause.TheVariants.{BadLength}
 use Rattle.fault.specs.declared.Fault.{Fault}

@@ -1,6 +1,6 @@
 -- A queue as the rules of the stations speak of it.
 use Rattle.std.specs.Prelude.{ℕ, List, []}
-use Rattle.queue.specs.Fifo.{put_contents, take_contents}
+use Rattle.queue.specs.Fifo.{put_contents}
 use Rattle.queue.specs.Ring.{capacity, contents}
 use Rattle.queue.specs.declared.Queue.{Queue}
 

@@ -1,5 +1,5 @@
 -- The reader: what each of its calls answers and moves.
-use Rattle.std.specs.Prelude.{ℕ, Bool, true, false, cond, not, ◌&&◌, ◌||◌, List, [], ◌∷◌, length, Some, None, Ok, Err, Option, Result, ◌==◌}
+use Rattle.std.specs.Prelude.{ℕ, Bool, true, false, cond, not, ◌&&◌, ◌||◌, List, [], ◌∷◌, Some, None, Ok, Err, Option, Result, ◌==◌}
 use Rattle.std.specs.Bool.{beq}
 use Rattle.fault.specs.Causes.{fault}
 use Rattle.fault.specs.declared.Cause.TheVariants.{WrongSender, OtherAddress, WrongControl, ReaderUnset, NothingStored, BadStation, BadClass, BadSlots, ShortBuffer}

@@ -1,5 +1,5 @@
 -- The survey of the links that are set. Its order is free.
-use Rattle.std.specs.Prelude.{◌≡◌, ℕ, zero, suc, ◌+◌, Bool, true, false, cond, ◌&&◌, List, [], ◌∷◌, length, take, drop, Ok, Result, ◌==◌, nat_le}
+use Rattle.std.specs.Prelude.{◌≡◌, ℕ, zero, suc, ◌+◌, Bool, cond, ◌&&◌, List, [], ◌∷◌, length, take, drop, Ok, Result, ◌==◌, nat_le}
 use Rattle.fault.specs.Causes.{fault}
 use Rattle.fault.specs.declared.Cause.TheVariants.{ShortBuffer}
 use Rattle.fault.specs.declared.Fault.{Fault}

@@ -1,6 +1,6 @@
 -- No call changes an address, so the ends of a lawful line stay apart.
-use Rattle.std.proofs.Common.{◌≡◌, ℕ, zero, suc, ◌<◌, ◌≤◌, Bool, true, false, cond, eqb, List, [], ◌∷◌, ◌++◌, map, length, get_or, Some, None, Ok, Err, Option, Result, sym, refl, ap, ◌∙◌, subst, ap₂, arith}
-use Rattle.account.proofs.Calls.{Offers, Turns, accepts, gives, has_none, is_busy, no_turn, not_offered, offers, resets, says_again, says_so, takes, turns}
+use Rattle.std.proofs.Common.{◌≡◌, ℕ, zero, suc, ◌<◌, Bool, true, false, cond, eqb, List, [], ◌∷◌, map, length, get_or, Some, None, Ok, Err, Option, Result, sym, refl, ap, ◌∙◌, subst, ap₂, arith}
+use Rattle.account.proofs.Calls.{Offers, Turns, accepts, gives, has_none, is_busy, offers, resets, says_again, says_so, takes, turns}
 use Rattle.account.specs.Account.{Apart}
 use Rattle.account.specs.Books.{Station, change, fetched, found, offered, turned}
 use Rattle.account.specs.Line as line

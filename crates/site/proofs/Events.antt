@@ -1,5 +1,5 @@
 -- What each call of a site comes to: where it stood at a point of a lawful run, it stands at the next.
-use Rattle.std.proofs.Common.{◌≡◌, ℕ, zero, suc, ◌+◌, ◌-◌, ◌<◌, ◌≤◌, Bool, true, false, cond, eqb, List, [], ◌∷◌, ◌++◌, map, length, get_or, set, Some, None, Ok, Err, Option, Result, sym, refl, ap, ◌∙◌, subst, ap₂, arith}
+use Rattle.std.proofs.Common.{◌≡◌, ℕ, zero, suc, ◌+◌, ◌-◌, ◌<◌, Bool, true, false, cond, eqb, List, [], ◌∷◌, ◌++◌, map, length, get_or, set, Some, None, Ok, Err, Result, sym, refl, ap, ◌∙◌, subst, ap₂, arith}
 use Rattle.account.proofs.Calls.{turns}
 use Rattle.account.proofs.Stations.{all_append, turned_round}
 use Rattle.account.proofs.Valid.{SaysWell, ValidWorld, burst_valid, valid_run}
@@ -14,7 +14,7 @@ use Rattle.frame.specs.declared.Format.{Ghosts}
 use Rattle.line.specs.Ways as memory
 use Rattle.line.specs.Ways.{View, arrived, as_sent, launched, on_way, quieted, sent_at}
 use Rattle.readers.proofs.Addresses.{change_alike}
-use Rattle.readers.proofs.Places.{nth_map, paired_length, paired_push}
+use Rattle.readers.proofs.Places.{nth_map, paired_push}
 use Rattle.readers.specs.Pairs.{Changes, Paired, Spaced, Tells, addresses}
 use Rattle.readers.specs.Readers.{Kept, ShowsReader}
 use Rattle.rules.specs.Concentrator as co
@@ -24,8 +24,8 @@ use Rattle.rules.specs.Reader as rd
 use Rattle.rules.specs.Reader.{Turn}
 use Rattle.rules.specs.Telegrams.{carried, telegram_read}
 use Rattle.site.proofs.Addresses.{addresses_changed, ends_apart, lawful_spaced, step_same, turn_address}
-use Rattle.site.proofs.Ways.{as_many, carries_joined, carries_left, carries_lost_all, carries_nothing, carries_written, new_burst, none_under_way, there}
-use Rattle.site.specs.Shown.{Carries, Lawful, Memory, Shown, Since, Stands, burst_of, no_burst, ends_of, flies, flies_to, sent_of, with_reader}
+use Rattle.site.proofs.Ways.{carries_joined, carries_left, carries_lost_all, carries_nothing, carries_written, new_burst, none_under_way, there}
+use Rattle.site.specs.Shown.{Carries, Lawful, Memory, Shown, Since, Stands, burst_of, no_burst, ends_of, flies_to, sent_of, with_reader}
 use Rattle.std.proofs.lemmas.List.{map_push}
 use Rattle.std.proofs.lemmas.Option.{slice_get-get_or}
 use Rattle.std.proofs.lemmas.Bool.{cond-true, eqb-true, ne_eqb}

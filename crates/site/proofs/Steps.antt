@@ -1,7 +1,7 @@
 -- From what the parts of a call do to what the call answers and comes to.
 use Rattle.std.proofs.Common.{◌≡◌, ℕ, suc, ◌+◌, ◌-◌, ◌<◌, Bool, true, false, cond, not, ltb, leb, List, [], ◌∷◌, ◌++◌, map, length, get_or, take, drop, Some, None, Ok, Err, Option, Result, sym, refl, ap, ◌∙◌, subst, ap₂, arith}
 use lib.Seq.{take-append_seam}
-use Rattle.account.proofs.Calls.{Asked, Ends, Timing, asks, closes, declined, doubts, hears, none_there, not_read, not_taken, not_timed, opened, repeats, times}
+use Rattle.account.proofs.Calls.{Asked, Ends, Timing, asks, closes, doubts, hears, opened, repeats, times}
 use Rattle.account.specs.Books.{Station, asked, change, ended, found, newest_send, offered}
 use Rattle.account.specs.Line as line
 use Rattle.account.specs.Line.{Event, Fitting, HeardAs, Octets, OctetsAsked, World, step}

@@ -1,5 +1,5 @@
 -- A burst that a reader hears: what it answers and comes to.
-use Rattle.std.proofs.Common.{◌≡◌, ℕ, suc, ◌+◌, ◌-◌, ◌<◌, Bool, true, false, cond, eqb, ltb, List, [], ◌∷◌, ◌++◌, length, get_or, take, drop, Some, None, Ok, Err, Option, Result, sym, refl, ap, ◌∙◌, subst, ap₂, arith, MatchOption}
+use Rattle.std.proofs.Common.{◌≡◌, ℕ, suc, ◌+◌, ◌-◌, Bool, true, false, cond, eqb, ltb, List, [], ◌∷◌, ◌++◌, length, take, drop, Some, None, Ok, Err, Option, Result, sym, refl, ap, ◌∙◌, subst, arith, MatchOption}
 use lib.Seq.{take-append_seam}
 use Rattle.account.proofs.Calls.{Turns, turns}
 use Rattle.account.proofs.Stations.{all_found, all_of}
@@ -25,20 +25,19 @@ use Rattle.rules.specs.declared.message.Message.{Message}
 use Rattle.site.proofs.Accounts.{Partners, partners}
 use Rattle.site.proofs.Addresses.{addresses_changed, lawful_spaced, turn_address}
 use Rattle.site.proofs.Events.{is_heard, reader_answers, reader_refused, sent_is}
-use Rattle.site.proofs.Steps.{filled, reader_end, unaltered}
+use Rattle.site.proofs.Steps.{filled, reader_end}
 use Rattle.site.proofs.Ways.{length_changed}
-use Rattle.site.specs.Shown.{Memory, Stands, burst_of, ends_of}
-use Rattle.site.specs.Sites.{Answered, Leads, answered_as, at_end, begun, marked_by, next_burst, number_of, symbols_of, taken_off, undamaged, with_line, with_readers}
+use Rattle.site.specs.Shown.{Memory, Stands, burst_of}
+use Rattle.site.specs.Sites.{Answered, Leads, answered_as, at_end, marked_by, next_burst, number_of, symbols_of, taken_off, undamaged, with_line, with_readers}
 use Rattle.site.specs.Troubles.{is_made, no_memory}
 use Rattle.site.specs.declared.trouble.Answer.{Answer}
 use Rattle.site.specs.declared.trouble.Trouble.{Trouble}
-use Rattle.site.specs.declared.trouble.Trouble.TheVariants.{NotOnWay, OutOfMemory, Refused}
+use Rattle.site.specs.declared.trouble.Trouble.TheVariants.{NotOnWay, OutOfMemory}
 use Rattle.station.specs.Refusals as refusals
 use Rattle.station.specs.Refusals.{told}
 use Rattle.station.specs.Shown as stations
 use Rattle.station.specs.declared.Refusal.{Refusal}
 use Rattle.station.specs.declared.Refusal.TheVariants as refusal
-use Rattle.std.proofs.lemmas.Bool.{eqb-true}
 use Rattle.std.specs.Option.{option_map}
 
 none_some : {A X : Type 0} {x : X} → None ≡ Some x → A

@@ -1,19 +1,18 @@
 -- The bursts in memory and those of the line: that they stay the same after each thing that befalls them.
-use Rattle.std.proofs.Common.{◌≡◌, ℕ, zero, suc, ◌+◌, ◌-◌, ◌<◌, ◌≤◌, Bool, true, false, cond, ◌&&◌, eqb, ltb, List, [], ◌∷◌, ◌++◌, map, length, get_or, set, replicate, Some, None, Option, sym, refl, ap, ◌∙◌, subst, ap₂, ⊎_elim, arith}
+use Rattle.std.proofs.Common.{◌≡◌, ℕ, zero, suc, ◌+◌, ◌-◌, ◌<◌, ◌≤◌, true, false, cond, ◌&&◌, eqb, ltb, List, [], ◌∷◌, ◌++◌, map, length, get_or, set, replicate, Some, None, Option, sym, refl, ap, ◌∙◌, subst, ap₂, ⊎_elim, arith}
 use Rattle.account.specs.Line.{Burst, NoneTo, gone, lost_everywhere}
 use Rattle.frame.specs.declared.Format.{Ghosts}
 use Rattle.line.proofs.Flags.{cleared}
 use Rattle.line.proofs.Ways.{taken}
-use Rattle.line.specs.Ways.{Flight, Sent, Silent, View, arrived, as_sent, burst_at, changed_at, landed, launched, marked, new_line, on_way, quieted}
-use Rattle.rules.specs.Telegrams.{carried}
+use Rattle.line.specs.Ways.{Flight, Sent, Silent, View, arrived, changed_at, landed, launched, marked, new_line, on_way, quieted}
 use Rattle.rules.specs.declared.telegram.Telegram.{Telegram}
 use Rattle.readers.proofs.Places.{all_false, nth_front, nth_last, nth_map, nth_set_other, nth_set_same}
 use Rattle.site.specs.Shown.{Carries, flies, flies_to, sent_of}
-use Rattle.std.proofs.lemmas.List.{get_or-replicate, get_or-set_other, length-map, length_push, length-set, map_push}
+use Rattle.std.proofs.lemmas.List.{get_or-replicate, get_or-set_other, length-map, length_push, map_push}
 use Rattle.std.proofs.lemmas.Option.{slice_get_past, slice_get_read}
 use Rattle.std.proofs.lemmas.Bool.{and_left, and_right, both_ways, cases_Bool, cases_eq, cases_lt, cond-true, le-ltb, lt-ltb, ne_eqb}
 use Rattle.std.specs.Option.{option_map}
-use Rattle.std.specs.List.{AllByRecursion as All, slice_get}
+use Rattle.std.specs.List.{slice_get}
 
 -- whether the burst at place k is on the way, by the mark that it has
 at_place : (i k : ℕ) (v : View) → on_way i (suc k) v ≡ (ltb v.quiet (suc k) && marked i (slice_get v.bursts k))

@@ -2,7 +2,7 @@
 use Rattle.std.specs.Prelude.{◌≡◌, ℕ, suc, ◌-◌, ◌<◌, ◌≤◌, Bool, true, false, List, [], ◌∷◌, ◌++◌, map, length, Some, None, Option, slice_index, slice_index_or}
 use Rattle.account.specs.Account.{Account, Apart}
 use Rattle.account.specs.Books.{Station, found}
-use Rattle.account.specs.Line.{Burst, Event, Fitting, Run, World, new_station, new_world, step}
+use Rattle.account.specs.Line.{Burst, Fitting, Run, World, new_station, new_world}
 use Rattle.frame.specs.declared.Format.{Ghosts}
 use Rattle.line.specs.Ways.{Sent, View, as_sent, on_way}
 use Rattle.readers.specs.Pairs.{Paired, addresses}

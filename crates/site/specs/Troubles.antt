@@ -1,5 +1,5 @@
 -- Why a call of a site was refused or not made.
-use Rattle.std.specs.Prelude.{ℕ, ◌+◌, Bool, true, false, length, Ok, Err, Result}
+use Rattle.std.specs.Prelude.{Bool, true, false, Ok, Err, Result}
 use Rattle.fault.specs.declared.Fault.{Fault}
 use Rattle.site.specs.declared.trouble.Trouble.{Trouble}
 use Rattle.site.specs.declared.trouble.Trouble.TheVariants.{Refused, NotOnWay, NotSilent, Damaged, NoReader, Joined, Closed, OutOfMemory}

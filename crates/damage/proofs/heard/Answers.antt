@@ -1,4 +1,4 @@
-use Rattle.std.proofs.Common.{◌≡◌, ◌≤◌, true, not, length, Ok, sym, refl, ap, ◌∙◌, subst, arith}
+use Rattle.std.proofs.Common.{◌≡◌, ◌≤◌, true, not, length, Ok, sym, refl, ap, ◌∙◌, arith}
 use Rattle.damage.proofs.Flips.{within_16}
 use Rattle.damage.proofs.Hearing.{told, within_guard}
 use Rattle.damage.proofs.heard.Goals as goal

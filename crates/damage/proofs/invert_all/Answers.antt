@@ -1,7 +1,7 @@
 use Rattle.std.proofs.Common.{◌+◌, not, get_or, take, sym, ap, ◌∙◌, subst}
 use Rattle.damage.proofs.Flips.{Inverting, given_before, inverting-more, inverting_none, may-invert}
 use Rattle.damage.proofs.invert_all.Goals as goal
-use Rattle.damage.specs.Damages.{differs, flipped, inverted, twice}
+use Rattle.damage.specs.Damages.{differs, flipped, twice}
 use Rattle.damage.specs.declared.Flip.{Flip}
 use Rattle.std.proofs.lemmas.List.{take_all}
 use Rattle.std.proofs.lemmas.Bool.{false≢true, not-false, not-true}

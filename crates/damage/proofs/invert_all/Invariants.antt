@@ -1,4 +1,4 @@
-use Rattle.std.proofs.Common.{◌≡◌, take}
+use Rattle.std.proofs.Common.{take}
 use Rattle.damage.proofs.Flips.{Inverting}
 use Rattle.damage.proofs.invert_all.Given as goal
 

@@ -1,4 +1,4 @@
-use Rattle.std.proofs.Common.{eqb, sym, ap, arith}
+use Rattle.std.proofs.Common.{sym, ap, arith}
 use Rattle.line.proofs.Line.find.Goals as goal
 use Rattle.line.proofs.Line.find.Goals.{then-k-eq0-via-else-k-eq0+then-k-len, then-k-eq0-via-then-k-eq0}
 use Rattle.line.proofs.Lines.{found, no_burst}

@@ -1,4 +1,4 @@
-use Rattle.std.proofs.Common.{◌+◌, drop, sym, refl, ap, ◌∙◌, inl, inr, arith}
+use Rattle.std.proofs.Common.{◌+◌, drop, refl, ap, ◌∙◌, inl, inr, arith}
 use Rattle.line.proofs.Line.join.Goals as goal
 use Rattle.line.proofs.Line.join.Goals.{then-len-gt0-via-else-len-gt0+then-self-ge-MOST_ENDS, then-len-gt0-via-then-len-gt0}
 use Rattle.line.proofs.Lines.{no_flights, none_sent, opened, shut}

@@ -4,7 +4,7 @@ use Rattle.line.proofs.Lines.{count_fits, counted_more, one_more}
 use Rattle.line.proofs.Ways.{spread}
 use Rattle.line.specs.Bursts.{flight, flights}
 use Rattle.line.specs.Lines.{room, view}
-use Rattle.line.specs.Ways.{Flight, Sent, Spread, View, as_sent, launched}
+use Rattle.line.specs.Ways.{Flight, Sent, Spread, as_sent, launched}
 use Rattle.line.specs.declared.burst.Burst.{Burst}
 use Rattle.std.proofs.lemmas.List.{length-map}
 use Rattle.std.proofs.lemmas.Bool.{cond-true, lt-ltb}

@@ -1,4 +1,4 @@
-use Rattle.std.proofs.Common.{◌≡◌, List, [], ◌∷◌, Err, sym, refl, ◌∙◌, rules}
+use Rattle.std.proofs.Common.{◌≡◌, List, [], ◌∷◌, Err, sym, refl, rules}
 use Rattle.fault.specs.declared.Fault.{Fault}
 use Rattle.queue.specs.Fifo.{take_answer}
 use Rattle.reader.specs.View.{view}

@@ -1,4 +1,4 @@
-use Rattle.std.proofs.Common.{◌≡◌, ◌<◌, map, length, get_or, sym, ◌∙◌, arith, below_more}
+use Rattle.std.proofs.Common.{◌<◌, map, length, sym, ◌∙◌, arith, below_more}
 use Rattle.readers.proofs.Found.{many_addresses, place_absent, place_first, read_address}
 use Rattle.readers.specs.Readers.{readers}
 use Rattle.readers.proofs.Readers.find.Goals as goal

@@ -1,4 +1,4 @@
-use Rattle.std.proofs.Common.{length, sym, ap, ◌∙◌}
+use Rattle.std.proofs.Common.{sym, ap, ◌∙◌}
 use Rattle.books.specs.Seen.{seen}
 use Rattle.readers.proofs.Found.{kept_is, nobody, partner}
 use Rattle.readers.specs.Readers.{handed_by, kept, readers}

@@ -1,4 +1,4 @@
-use Rattle.std.proofs.Common.{◌≡◌, suc, ◌+◌, ◌-◌, true, ltb, length, vec_items, sym, refl, ap, ◌∙◌, subst, arith}
+use Rattle.std.proofs.Common.{◌≡◌, suc, ◌+◌, ◌-◌, true, ltb, length, vec_items, sym, ap, ◌∙◌, subst, arith}
 use Rattle.account.specs.Line.{reader_hears}
 use Rattle.damage.specs.Damages.{hearing}
 use Rattle.line.specs.Ways.{on_way, sent_at}

@@ -1,4 +1,4 @@
-use Rattle.std.proofs.Common.{sym, refl, ap, ◌∙◌}
+use Rattle.std.proofs.Common.{sym, ap}
 use Rattle.site.proofs.Site.join.Goals as goal
 use Rattle.site.proofs.Steps.{joins_come}
 use Rattle.site.specs.Sites.{seen, with_line, with_readers}

@@ -1,4 +1,4 @@
-use Rattle.std.proofs.Common.{◌≡◌, ◌+◌, length, take, sym, ap, ◌∙◌}
+use Rattle.std.proofs.Common.{◌≡◌, length, take, ap, ◌∙◌}
 use Rattle.line.specs.Lines.{room, view}
 use Rattle.line.specs.Ways.{View, as_sent, launched}
 use Rattle.site.proofs.Site.launch.Goals as goal

@@ -1,4 +1,4 @@
-use Rattle.std.proofs.Common.{◌≡◌, suc, ◌+◌, true, cond, Ok, Err, sym, ap, ◌∙◌, subst, arith}
+use Rattle.std.proofs.Common.{◌≡◌, suc, ◌+◌, true, cond, Ok, Err, sym, ap, ◌∙◌, arith}
 use Rattle.line.specs.Ways.{arrived, on_way}
 use Rattle.site.proofs.Site.lose_at_reader.Goals as goal
 use Rattle.site.proofs.Steps.{losses_come, reader_end}

@@ -1,4 +1,4 @@
-use Rattle.std.proofs.Common.{ltb, length, vec_items, sym, refl, ap, ◌∙◌}
+use Rattle.std.proofs.Common.{length, vec_items, refl, ap, ◌∙◌}
 use Rattle.concentrator.specs.View.{view}
 use Rattle.rules.specs.Concentrator.{for_poll}
 use Rattle.site.proofs.Site.poll.Goals as goal

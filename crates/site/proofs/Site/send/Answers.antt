@@ -1,4 +1,4 @@
-use Rattle.std.proofs.Common.{ltb, length, vec_items, sym, refl, ap, ◌∙◌}
+use Rattle.std.proofs.Common.{length, vec_items, refl, ap, ◌∙◌}
 use Rattle.concentrator.specs.View.{view}
 use Rattle.rules.specs.Concentrator.{for_send}
 use Rattle.site.proofs.Site.send.Goals as goal

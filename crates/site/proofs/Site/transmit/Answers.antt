@@ -1,4 +1,4 @@
-use Rattle.std.proofs.Common.{Ok, sym, refl, ap, ◌∙◌, subst}
+use Rattle.std.proofs.Common.{Ok, sym, ap, subst}
 use Rattle.site.proofs.Site.transmit.Goals as goal
 use Rattle.site.specs.Sites.{ReadyOnce, Transmitted, seen}
 

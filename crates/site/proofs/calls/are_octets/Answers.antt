@@ -1,4 +1,4 @@
-use Rattle.std.proofs.Common.{ℕ, ◌<◌, arith}
+use Rattle.std.proofs.Common.{◌<◌, arith}
 use Rattle.std.proofs.ByRecursion.{All-from_get_or}
 use Rattle.site.proofs.calls.are_octets.Goals as goal
 

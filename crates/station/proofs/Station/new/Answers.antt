@@ -1,7 +1,5 @@
 use Rattle.std.proofs.Common.{◌≡◌, ℕ, ap, ◌∙◌}
 use Rattle.account.specs.Line.{Fitting}
-use Rattle.books.proofs.Shown.{shows_new}
-use Rattle.books.specs.Shows.{Shows}
 use Rattle.rules.specs.Reader.{new_reader}
 use Rattle.station.proofs.Station.new.Goals as goal
 use Rattle.station.proofs.Steps.{begun_step}

@@ -1,4 +1,4 @@
-use Rattle.std.proofs.Common.{sym, ap, ◌∙◌, arith, rules}
+use Rattle.std.proofs.Common.{sym, ap, ◌∙◌, arith}
 use Rattle.links.proofs.Surveys.{partly_none, partly_set, partly_unset}
 use Rattle.links.proofs.table.LinkTable.survey.Goals as goal
 use Rattle.links.proofs.table.LinkTable.survey.Goals.{then-get, else-get}
