@@ -37,7 +37,7 @@ use Rattle.rules.specs.declared.records.Report.{Report}
 use Rattle.rules.specs.declared.records.Request.{Request}
 use Rattle.rules.specs.declared.records.Request.TheVariants.{Reset, Status, Send, Poll}
 use Rattle.rules.specs.declared.telegram.Telegram.{Telegram}
-use Rattle.std.specs.List.{AllZip, AllByRecursion as All}
+use Rattle.std.specs.List.{AllZip, AllByRecursion}
 
 abbrev Off : Link → Station → Type 0
 Off l s = (l.set ≡ false) ⊎ (s.reader.link.set ≡ false)
@@ -175,7 +175,7 @@ steps_same w = each_same (On w.concentrator.links w.concentrator.links) (on_same
 abbrev Any : Station → Type 0
 Any s = Unit {0}
 
-any : (l : List Station) → All Any l
+any : (l : List Station) → AllByRecursion Any l
 any [] = tt
 any (s ∷ l) = (tt, any l)
 
@@ -186,7 +186,7 @@ module _ (w : World) where
       (λ s e p. record { same = same s; on = h s (link_at w.concentrator.links (address_of s)) }) (λ s e p. on_same w.concentrator.links s) (any w.stations)
 
   -- a change of one link and its reader
-  steps_changed : (a : ℕ) (y : Link → Link) (f : Station → Station) → length w.concentrator.links ≡ 32 → Known a → All (λ s. Known (address_of s)) w.stations
+  steps_changed : (a : ℕ) (y : Link → Link) (f : Station → Station) → length w.concentrator.links ≡ 32 → Known a → AllByRecursion (λ s. Known (address_of s)) w.stations
       → ((s : Station) → address_of (f s) ≡ address_of s) → ((l : Link) (s : Station) → Onward l (y l) s (f s))
       → AllZip (On w.concentrator.links (change_link w.concentrator.links a (y (link_at w.concentrator.links a)))) w.stations (change a f w.stations)
   steps_changed a y f table ka known same h =
@@ -216,7 +216,7 @@ module _ (w : World) where
       changed s ks = link_changed j a (y (link_at j a)) table ka (address_of s) ks
 
 module _ (w : World) (i : Inv w) where
-  all_known : All (λ s. Known (address_of s)) w.stations
+  all_known : AllByRecursion (λ s. Known (address_of s)) w.stations
   all_known = all_map (Stands w.concentrator.links w.concentrator.exchange i.state.live w.bursts) (λ s. Known (address_of s)) w.stations (λ s p. p.known) i.state.each
 
   open_known : (x : Exchange) → w.concentrator.exchange ≡ Some x → Known x.station

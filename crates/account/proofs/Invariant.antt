@@ -33,7 +33,7 @@ use Rattle.rules.specs.declared.records.Exchange.{Exchange}
 use Rattle.rules.specs.declared.records.Report.{Report}
 use Rattle.rules.specs.declared.records.Request.{Request}
 use Rattle.rules.specs.declared.telegram.Telegram.{Telegram}
-use Rattle.std.specs.List.{AllByRecursion as All}
+use Rattle.std.specs.List.{AllByRecursion}
 
 abbrev StateOf : Concentrator → List Burst → List Station → Type 0
 StateOf k bursts stations = State k.links k.exchange bursts stations
@@ -50,7 +50,7 @@ all_unset zero i = refl
 all_unset (suc n) zero = refl
 all_unset (suc n) (suc i) = all_unset n i
 
-new_apart : (f : Fitting) (l : List Fitting) → All (λ g. eqb g.address f.address ≡ false) l → All (λ t. eqb (address_of t) f.address ≡ false) (map new_station l)
+new_apart : (f : Fitting) (l : List Fitting) → AllByRecursion (λ g. eqb g.address f.address ≡ false) l → AllByRecursion (λ t. eqb (address_of t) f.address ≡ false) (map new_station l)
 new_apart f [] h = tt
 new_apart f (g ∷ l) h = (h.0, new_apart f l h.1)
 
@@ -58,7 +58,7 @@ new_distinct : (l : List Fitting) → Apart l → Distinct (map new_station l)
 new_distinct [] h = tt
 new_distinct (f ∷ l) h = (new_apart f l h.1, new_distinct l h.2)
 
-new_stands : (l : List Fitting) → Apart l → All (Stands (replicate 32 unset_link) None nowhere []) (map new_station l)
+new_stands : (l : List Fitting) → Apart l → AllByRecursion (Stands (replicate 32 unset_link) None nowhere []) (map new_station l)
 new_stands [] h = tt
 new_stands (f ∷ l) h = (
   record {
@@ -181,7 +181,7 @@ module _ (w : World) (i : Inv w) (s : Station) (k : ℕ) (b : Burst) (lim : OnWa
         let g = heard_good links l k b lim.0 lim.1 s lim.2 d x st.live q in
         answered_inv (hear_telegram b.telegram s.reader) (turns s.reader false (Ok b.telegram))
         (λ t adr r. answered_state links x w.stations l k b lim.0 lim.1 s q.to_it lim.2 (word b)
-        (subst (λ f. All (Stands links (Some x) f l) w.stations) q.is st.each) st.known (st.back ∙ ap shown_back q.is) q.none p.known t adr
+        (subst (λ f. AllByRecursion (Stands links (Some x) f l) w.stations) q.is st.each) st.known (st.back ∙ ap shown_back q.is) q.none p.known t adr
         (subst (Good (link_at links (address_of s)) s x.request x.bit b.number) r g))
 
   heard_alive : (x : Option Exchange) → w.concentrator.exchange ≡ x → (st : State links x l w.stations) → Stands links x st.live l s → alive (address_of s) b.telegram ≡ true
@@ -209,8 +209,8 @@ module _ (w : World) (i : Inv w) (k : ℕ) (b : Burst) (lim : OnWay 0 k b w) whe
 
   module _ (x : Exchange) (e : w.concentrator.exchange ≡ Some x) (st : State w.concentrator.links (Some x) w.bursts w.stations) (o : Ending) (v : verdict x b.telegram ≡ Ok o) where
     -- no request is on its way then
-    ways_none : (f : Live) → f ≡ coming (word b) → All (Stands w.concentrator.links (Some x) f w.bursts) w.stations
-        → All (λ s. keep (alive (address_of s)) (address_of s) w₀.bursts ≡ []) w.stations
+    ways_none : (f : Live) → f ≡ coming (word b) → AllByRecursion (Stands w.concentrator.links (Some x) f w.bursts) w.stations
+        → AllByRecursion (λ s. keep (alive (address_of s)) (address_of s) w₀.bursts ≡ []) w.stations
     ways_none f q each =
         all_map (Stands w.concentrator.links (Some x) f w.bursts) (λ s. keep (alive (address_of s)) (address_of s) w₀.bursts ≡ []) w.stations
         (λ s p. left_elsewhere (alive (address_of s)) (address_of s) 0 w.bursts k b (known_some (address_of s) p.known) lim.1 ∙ p.way ∙ hidden (eqb x.station (address_of s))) each
@@ -228,7 +228,7 @@ module _ (w : World) (i : Inv w) (k : ℕ) (b : Burst) (lim : OnWay 0 k b w) whe
         record {
           state = ended_state w.concentrator.links i.table x st.known w.stations (coming (word b)) w.bursts w₀.bursts b.number o
               (λ s z p. answer_ends w.concentrator.links x w.bursts (word b) o v s z p)
-              (subst (λ f. All (Stands w.concentrator.links (Some x) f w.bursts) w.stations) c st.each)
+              (subst (λ f. AllByRecursion (Stands w.concentrator.links (Some x) f w.bursts) w.stations) c st.each)
               (ways_none st.live c st.each) r.1;
           table = length-set w.concentrator.links (x.station - 1) _ ∙ i.table;
           apart = distinct_changed x.station (ended b.number x.request o) w.stations (λ s z. refl) i.apart;
@@ -255,7 +255,7 @@ module _ (w : World) (i : Inv w) (k : ℕ) (b : Burst) (lim : OnWay 0 k b w) whe
 -- ## the time_out, on a silent line
 
 module _ (w : World) (i : Inv w) (quiet : Silent w) where
-  silent_ways : All (λ s. keep (alive (address_of s)) (address_of s) w.bursts ≡ []) w.stations
+  silent_ways : AllByRecursion (λ s. keep (alive (address_of s)) (address_of s) w.bursts ≡ []) w.stations
   silent_ways =
       all_map (λ s. line.NoneTo s.reader.address w.bursts) (λ s. keep (alive (address_of s)) (address_of s) w.bursts ≡ []) w.stations
       (λ s p. none_kept (alive (address_of s)) (address_of s) w.bursts p) quiet.1
@@ -275,7 +275,7 @@ module _ (w : World) (i : Inv w) (quiet : Silent w) where
       known_address = p.0.known;
     }
 
-    both : All (λ s. Stands w.concentrator.links (Some x) st.live w.bursts s × (keep (alive (address_of s)) (address_of s) w.bursts ≡ [])) w.stations
+    both : AllByRecursion (λ s. Stands w.concentrator.links (Some x) st.live w.bursts s × (keep (alive (address_of s)) (address_of s) w.bursts ≡ [])) w.stations
     both = all_both (Stands w.concentrator.links (Some x) st.live w.bursts) (λ s. keep (alive (address_of s)) (address_of s) w.bursts ≡ []) w.stations st.each silent_ways
 
     repeated_inv : Inv (timed (Ok (co.again (record { exchange = once_more x; after = co.with_exchange (Some (once_more x)) w.concentrator }))) w)

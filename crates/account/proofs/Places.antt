@@ -8,20 +8,20 @@ use Rattle.account.specs.Books.{Station, change, found}
 use Rattle.account.specs.Line.{Fitting, Run, World, begin, new_world, then}
 use Rattle.frame.specs.Laws.{GuardLaw, VerdictLaw}
 use Rattle.frame.specs.declared.Format.{Ghosts}
-use Rattle.std.specs.List.{AllByRecursion as All}
+use Rattle.std.specs.List.{AllByRecursion}
 
 -- what holds of each holds of the one at a place
-pub all_at : {X : Type 0} (P : X → Type 0) (l : List X) (i : ℕ) (d : X) → i < length l → All P l → P (get_or l i d)
+pub all_at : {X : Type 0} (P : X → Type 0) (l : List X) (i : ℕ) (d : X) → i < length l → AllByRecursion P l → P (get_or l i d)
 all_at P [] i d h p = let w : ⊥ = omega arith in absurd w
 all_at P (x ∷ l) zero d h p = p.0
 all_at P (x ∷ l) (suc i) d h p = all_at P l i d (omega arith) p.1
 
 -- an address that no reader has
-pub found_none : (a : ℕ) (l : List Station) → All (λ s. eqb (address_of s) a ≡ false) l → found a l ≡ None
+pub found_none : (a : ℕ) (l : List Station) → AllByRecursion (λ s. eqb (address_of s) a ≡ false) l → found a l ≡ None
 found_none a [] h = refl
 found_none a (s ∷ l) h = ap (λ z. cond z (Some s) (found a l)) h.0 ∙ found_none a l h.1
 
-pub change_none : (a : ℕ) (f : Station → Station) (l : List Station) → All (λ s. eqb (address_of s) a ≡ false) l → change a f l ≡ l
+pub change_none : (a : ℕ) (f : Station → Station) (l : List Station) → AllByRecursion (λ s. eqb (address_of s) a ≡ false) l → change a f l ≡ l
 change_none a f [] h = refl
 change_none a f (s ∷ l) h = ap (λ z. cond z (f s) s ∷ change a f l) h.0 ∙ ap (λ k. s ∷ k) (change_none a f l h.1)
 

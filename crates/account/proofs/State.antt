@@ -17,7 +17,7 @@ use Rattle.rules.specs.declared.records.Ending.{Ending}
 use Rattle.rules.specs.declared.records.Exchange.{Exchange}
 use Rattle.rules.specs.declared.records.Request.{Request}
 use Rattle.std.proofs.lemmas.Bool.Decides.{nat_tests}
-use Rattle.std.specs.List.{AllByRecursion as All}
+use Rattle.std.specs.List.{AllByRecursion}
 
 abbrev pub Known : ℕ → Type 0
 Known a = within 1 32 a ≡ true
@@ -68,7 +68,7 @@ OpenKnown (Some x) = Known x.station
 
 pub record State (links : List Link) (x : Option Exchange) (bursts : List Burst) (stations : List Station) : Type 0 where
   pub live : Live
-  pub each : All (Stands links x live bursts) stations
+  pub each : AllByRecursion (Stands links x live bursts) stations
   pub back : keep alive_back 0 bursts ≡ shown_back (live_in x live)
   pub known : OpenKnown x
 
@@ -290,7 +290,7 @@ module _ (links : List Link) (x : Exchange) (stations : List Station) (l : List 
   abbrev pub answer_word : Turn → Word
   answer_word t = record { telegram = t.answer; number = Rattle.account.specs.Books.newest_hand_out (turned b.number t s).up.handed }
 
-  module _ (y : Word) (each : All (Stands links (Some x) (going y) l) stations) (known : Known x.station) (back : keep alive_back 0 l ≡ []) (none : keep (alive a) a l' ≡ []) (ka : Known a) where
+  module _ (y : Word) (each : AllByRecursion (Stands links (Some x) (going y) l) stations) (known : Known x.station) (back : keep alive_back 0 l ≡ []) (none : keep (alive a) a l' ≡ []) (ka : Known a) where
     pub answered_state : (t : Turn) → t.reader.address ≡ a → Good (link_at links a) s x.request x.bit b.number (Ok t)
         → State links (Some x) (l' ++ (new_burst (answer_word t) ∷ [])) (change a (λ r. turned b.number t s) stations)
     answered_state t adr g = record {
@@ -385,8 +385,8 @@ module _ (links : List Link) (table : length links ≡ 32) (x : Exchange) (known
   pub ended_state : (n : ℕ) (e : Ending)
       → ((s : Station) → eqb x.station (address_of s) ≡ true → Stood (address_of s) (link_at links (address_of s)) (open_for x.request x.bit) f l (view s)
       → Pair (address_of s) (link_after x.request e (link_at links (address_of s))) shut nowhere (view (ended n x.request e s)))
-      → All (Stands links (Some x) f l) stations
-      → All (λ s. keep (alive (address_of s)) (address_of s) l' ≡ []) stations → keep alive_back 0 l' ≡ []
+      → AllByRecursion (Stands links (Some x) f l) stations
+      → AllByRecursion (λ s. keep (alive (address_of s)) (address_of s) l' ≡ []) stations → keep alive_back 0 l' ≡ []
       → State (after_end e) None l' (change x.station (ended n x.request e) stations)
   ended_state n e here each ways back = record {
     live = nowhere;
@@ -455,7 +455,7 @@ module _ (links : List Link) (x : Exchange) (known : Known x.station) (stations 
     pub none : keep (alive (address_of s)) (address_of s) l ≡ []
     pub known_address : Known (address_of s)
 
-  pub sent_state : Distinct stations → All Ready stations → keep alive_back 0 l ≡ [] → State links (Some x) (l ++ (new_burst sent_word ∷ [])) stations
+  pub sent_state : Distinct stations → AllByRecursion Ready stations → keep alive_back 0 l ≡ [] → State links (Some x) (l ++ (new_burst sent_word ∷ [])) stations
   sent_state apart each back = record {
     live = going sent_word;
     each = all_map (λ s. Ready s × (eqb (address_of s) x.station ≡ true → newest_send (found x.station stations) ≡ newest_sent s.down.sends))

@@ -2,7 +2,7 @@
 use Rattle.std.proofs.Common.{◌≡◌, ℕ, Bool, true, false, cond, eqb, List, [], ◌∷◌, ◌++◌, Some, None, sym, refl, ap, ◌∙◌, subst, arith, eq-eqb, eqb-true}
 use Rattle.account.specs.Books.{Station, found, change, newest_send, newest_sent}
 use Rattle.std.proofs.lemmas.Bool.Decides.{nat_tests}
-use Rattle.std.specs.List.{AllZip, AllByRecursion as All}
+use Rattle.std.specs.List.{AllZip, AllByRecursion}
 
 abbrev pub address_of : Station → ℕ
 address_of s = s.reader.address
@@ -13,26 +13,26 @@ own a = eq-eqb a a refl
 pub turned_round : (a b : ℕ) (z : Bool) → eqb a b ≡ z → eqb b a ≡ z
 turned_round a b z e = grind (arith, nat_tests)
 
-pub all_of : {X : Type 0} (P : X → Type 0) (l : List X) → ((x : X) → P x) → All P l
+pub all_of : {X : Type 0} (P : X → Type 0) (l : List X) → ((x : X) → P x) → AllByRecursion P l
 all_of P [] h = tt
 all_of P (x ∷ l) h = (h x, all_of P l h)
 
-pub all_map : {X : Type 0} (P Q : X → Type 0) (l : List X) → ((x : X) → P x → Q x) → All P l → All Q l
+pub all_map : {X : Type 0} (P Q : X → Type 0) (l : List X) → ((x : X) → P x → Q x) → AllByRecursion P l → AllByRecursion Q l
 all_map P Q [] h p = tt
 all_map P Q (x ∷ l) h p = (h x p.0, all_map P Q l h p.1)
 
-pub all_both : {X : Type 0} (P Q : X → Type 0) (l : List X) → All P l → All Q l → All (λ x. P x × Q x) l
+pub all_both : {X : Type 0} (P Q : X → Type 0) (l : List X) → AllByRecursion P l → AllByRecursion Q l → AllByRecursion (λ x. P x × Q x) l
 all_both P Q [] p q = tt
 all_both P Q (x ∷ l) p q = ((p.0, q.0), all_both P Q l p.1 q.1)
 
-pub all_append : {X : Type 0} (P : X → Type 0) (l : List X) (x : X) → All P l → P x → All P (l ++ (x ∷ []))
+pub all_append : {X : Type 0} (P : X → Type 0) (l : List X) (x : X) → AllByRecursion P l → P x → AllByRecursion P (l ++ (x ∷ []))
 all_append P [] x p q = (q, tt)
 all_append P (y ∷ l) x p q = (p.0, all_append P l x p.1 q)
 
 -- a change of the reader of an address
 pub all_changed : (P Q : Station → Type 0) (a : ℕ) (f : Station → Station) (l : List Station)
     → ((s : Station) → eqb (address_of s) a ≡ true → P s → Q (f s)) → ((s : Station) → eqb (address_of s) a ≡ false → P s → Q s)
-    → All P l → All Q (change a f l)
+    → AllByRecursion P l → AllByRecursion Q (change a f l)
 all_changed P Q a f [] g h p = tt
 all_changed P Q a f (s ∷ l) g h p = (go (eqb (address_of s) a) refl, all_changed P Q a f l g h p.1)
   where
@@ -47,7 +47,7 @@ pub some_same : {X : Type 0} {x y : X} → Some x ≡ Some y → x ≡ y
 some_same e = cc
 
 -- the reader that is found is one of them, and has the address
-pub all_found : (P : Station → Type 0) (a : ℕ) (l : List Station) (s : Station) → found a l ≡ Some s → All P l → P s × (address_of s ≡ a)
+pub all_found : (P : Station → Type 0) (a : ℕ) (l : List Station) (s : Station) → found a l ≡ Some s → AllByRecursion P l → P s × (address_of s ≡ a)
 all_found P a [] s e p = none_some e
 all_found P a (t ∷ l) s e p = go (eqb (address_of t) a) refl e (λ r. all_found P a l s r p.1)
   where
@@ -61,22 +61,22 @@ Other b t = eqb (address_of t) b ≡ false
 
 abbrev pub Distinct : List Station → Type 0
 Distinct [] = Unit {0}
-Distinct (s ∷ l) = All (λ t. eqb (address_of t) (address_of s) ≡ false) l × Distinct l
+Distinct (s ∷ l) = AllByRecursion (λ t. eqb (address_of t) (address_of s) ≡ false) l × Distinct l
 
 pub distinct_changed : (a : ℕ) (f : Station → Station) (l : List Station) → ((s : Station) → eqb (address_of s) a ≡ true → address_of (f s) ≡ address_of s)
     → Distinct l → Distinct (change a f l)
 distinct_changed a f [] h d = tt
 distinct_changed a f (s ∷ l) h d = (go (eqb (address_of s) a) refl, distinct_changed a f l h d.1)
   where
-    rest : All (Other (address_of s)) (change a f l)
+    rest : AllByRecursion (Other (address_of s)) (change a f l)
     rest = all_changed (Other (address_of s)) (Other (address_of s)) a f l (λ t e p. subst (λ b. eqb b (address_of s) ≡ false) (sym (h t e)) p) (λ t e p. p) d.0
 
-    go : (z : Bool) → eqb (address_of s) a ≡ z → All (Other (address_of (cond z (f s) s))) (change a f l)
-    go true e = subst (λ b. All (Other b) (change a f l)) (sym (h s e)) rest
+    go : (z : Bool) → eqb (address_of s) a ≡ z → AllByRecursion (Other (address_of (cond z (f s) s))) (change a f l)
+    go true e = subst (λ b. AllByRecursion (Other b) (change a f l)) (sym (h s e)) rest
     go false e = rest
 
 -- each is found under its address
-pub own_found : (l : List Station) → Distinct l → All (λ s. found (address_of s) l ≡ Some s) l
+pub own_found : (l : List Station) → Distinct l → AllByRecursion (λ s. found (address_of s) l ≡ Some s) l
 own_found [] d = tt
 own_found (s ∷ l) d = (
   ap (λ z. cond z (Some s) (found (address_of s) l)) (own (address_of s)),
@@ -86,7 +86,7 @@ own_found (s ∷ l) d = (
 )
 
 -- so the newest send to an address is the newest of the reader that has it
-pub own_number : (a : ℕ) (l : List Station) → Distinct l → All (λ s. eqb (address_of s) a ≡ true → newest_send (found a l) ≡ newest_sent s.down.sends) l
+pub own_number : (a : ℕ) (l : List Station) → Distinct l → AllByRecursion (λ s. eqb (address_of s) a ≡ true → newest_send (found a l) ≡ newest_sent s.down.sends) l
 own_number a l d =
     all_map (λ s. found (address_of s) l ≡ Some s) (λ s. eqb (address_of s) a ≡ true → newest_send (found a l) ≡ newest_sent s.down.sends) l
     (λ s p e. ap (λ b. newest_send (found b l)) (sym (eqb-true (address_of s) a e)) ∙ ap newest_send p) (own_found l d)
@@ -112,7 +112,7 @@ module _ (R : Station → Station → Type 0) where
 
   pub each_changed : (P : Station → Type 0) (a : ℕ) (f : Station → Station) (l : List Station)
       → ((s : Station) → eqb (address_of s) a ≡ true → P s → R s (f s)) → ((s : Station) → eqb (address_of s) a ≡ false → P s → R s s)
-      → All P l → AllZip R l (change a f l)
+      → AllByRecursion P l → AllZip R l (change a f l)
   each_changed P a f [] g h p = tt
   each_changed P a f (s ∷ l) g h p = (go (eqb (address_of s) a) refl, each_changed P a f l g h p.1)
     where

@@ -40,7 +40,7 @@ use Rattle.rules.specs.declared.records.Mark.TheVariants.{Doubtful}
 use Rattle.rules.specs.declared.records.Request.{Request}
 use Rattle.rules.specs.declared.records.Request.TheVariants.{Reset, Status, Send, Poll}
 use Rattle.rules.specs.declared.telegram.Telegram.{Telegram}
-use Rattle.std.specs.List.{AllByRecursion as All}
+use Rattle.std.specs.List.{AllByRecursion}
 
 pub record Tied (s : Station) : Type 0 where
   pub sent : Numbered (map (λ x. x.item) s.down.sends)
@@ -240,11 +240,11 @@ abbrev Fine : List Arrival → Station → Type 0
 Fine l s = Tied s × Landed l s
 
 pub record Books (w : World) : Type 0 where
-  pub all : All (Fine w.concentrator.arrivals.records) w.stations
+  pub all : AllByRecursion (Fine w.concentrator.arrivals.records) w.stations
 
 -- a change of a reader that has to do with no arrival
 fine_changed : (a : ℕ) (f : Station → Station) (l : List Arrival) (stations : List Station)
-    → ((s : Station) → Tied s → Tied (f s)) → ((s : Station) → Landed l s → Landed l (f s)) → All (Fine l) stations → All (Fine l) (change a f stations)
+    → ((s : Station) → Tied s → Tied (f s)) → ((s : Station) → Landed l s → Landed l (f s)) → AllByRecursion (Fine l) stations → AllByRecursion (Fine l) (change a f stations)
 fine_changed a f l stations g h p = all_changed (Fine l) (Fine l) a f stations (λ s e q. (g s q.0, h s q.1)) (λ s e q. q) p
 
 landed_offer : (s : Station) (l : List Arrival) (o : rd.Offered) → Offers s.reader o → Landed l s → Landed l (books.offered o s)
@@ -339,7 +339,7 @@ module _ (w : World) (b : Books w) where
           p.1 ∙ from_fetched (address_of s) l m s.up.fetched true (turned_round (address_of s) m.station true z),
         ))
         (λ s z p. (p.0, p.1 ∙ from_fetched (address_of s) l m s.up.fetched false (turned_round (address_of s) m.station false z)))
-        (subst (λ k. All (Fine k) w.stations) e b.all);
+        (subst (λ k. AllByRecursion (Fine k) w.stations) e b.all);
   }
 
   books_report : (l : List _) → Books (line.with_concentrator (co.reports_left l w.concentrator) w.stations w)
@@ -380,7 +380,7 @@ module _ {X : Type 0} (F : Ghosts X) where
   books_run begin h b = b
   books_run (then r e lim) h b = books_step e _ (room_run F r h) lim (books_run r h b)
 
-new_fine : (l : List Fitting) → All (Fine []) (map new_station l)
+new_fine : (l : List Fitting) → AllByRecursion (Fine []) (map new_station l)
 new_fine [] = tt
 new_fine (f ∷ l) =
     ((record { sent = tt; inbox = refl; offered = tt; each = elim [ First ↦ refl | Second ↦ refl ]; waits = elim [ First ↦ refl | Second ↦ refl ] }, refl), new_fine l)

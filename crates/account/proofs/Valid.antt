@@ -34,7 +34,7 @@ use Rattle.rules.specs.declared.records.Request.TheVariants.{Reset, Status, Send
 use Rattle.rules.specs.declared.telegram.Telegram.{Telegram}
 use Rattle.rules.specs.declared.telegram.Telegram.TheVariants.{Single, Fixed, Variable}
 use Rattle.std.proofs.lemmas.Bool.Decides.{nat_tests}
-use Rattle.std.specs.List.{AllByRecursion as All}
+use Rattle.std.specs.List.{AllByRecursion}
 
 -- ## telegrams that a frame can carry
 
@@ -73,7 +73,7 @@ variable_sayable c a m p q h =
     let e = text_of h.octets h.least h.most in
     subst (λ x. Sayable (Variable (record { octet = c }) a x)) (sym h.is)
     (record {
-      valid = (p, q, subst (λ l. 1 ≤ length l) (sym e) h.least, subst (λ l. length l ≤ 64) (sym e) h.most, subst (All (λ o. o < 256)) (sym e) h.small);
+      valid = (p, q, subst (λ l. 1 ≤ length l) (sym e) h.least, subst (λ l. length l ≤ 64) (sym e) h.most, subst (AllByRecursion (λ o. o < 256)) (sym e) h.small);
       back = ap (λ l. Variable (record { octet = c }) a (message_of l)) e;
     })
 
@@ -92,8 +92,8 @@ StoredSayable (Some t) = Sayable t
 
 pub record Whole (r : Reader) : Type 0 where
   pub known : Known r.address
-  pub class1 : All Proper r.class1.records
-  pub class2 : All Proper r.class2.records
+  pub class1 : AllByRecursion Proper r.class1.records
+  pub class2 : AllByRecursion Proper r.class2.records
   pub stored : StoredSayable r.stored
 
 says_sayable : (k : Reply) (r : Reader) → Known r.address → Sayable (rd.says k r)
@@ -113,12 +113,12 @@ abbrev pub HeardWhole : Result Turn Fault → Type 0
 HeardWhole (Err f) = Unit {0}
 HeardWhole (Ok t) = Whole t.reader × Sayable t.answer
 
-queue_proper : (r : Reader) → Whole r → (c : Class) → All Proper (rd.class_queue c r).records
+queue_proper : (r : Reader) → Whole r → (c : Class) → AllByRecursion Proper (rd.class_queue c r).records
 queue_proper r h First = h.class1
 queue_proper r h Second = h.class2
 
 -- a change of the queue of a class
-queue_whole : (c : Class) (q : Held Message) (r : Reader) → Whole r → All Proper q.records → Whole (rd.with_class c q r)
+queue_whole : (c : Class) (q : Held Message) (r : Reader) → Whole r → AllByRecursion Proper q.records → Whole (rd.with_class c q r)
 queue_whole First q r h p = record { known = h.known; class1 = p; class2 = h.class2; stored = h.stored }
 queue_whole Second q r h p = record { known = h.known; class1 = h.class1; class2 = p; stored = h.stored }
 
@@ -138,15 +138,15 @@ turn_whole r h (Ok t) has_none =
     let a = briefly_sayable reply.NoData (rd.turned None r) h.known in
     (record { known = h.known; class1 = h.class1; class2 = h.class2; stored = a }, a)
 turn_whole r h (Ok t) (gives c m ms e) =
-    let p : All Proper (m ∷ ms) = subst (All Proper) e (queue_proper r h c) in
+    let p : AllByRecursion Proper (m ∷ ms) = subst (AllByRecursion Proper) e (queue_proper r h c) in
     let w = queue_whole c (holding (rd.class_queue c r) ms) r h p.1 in
     let a = data_sayable m (rd.turned (Some m) (rd.with_class c (holding (rd.class_queue c r) ms) r)) w.known p.0 in
     (record { known = w.known; class1 = w.class1; class2 = w.class2; stored = a }, a)
 
-put_proper : (m : Message) (q : Held Message) → Proper m → All Proper q.records → All Proper (Rattle.rules.specs.Queues.put_in m q).records
+put_proper : (m : Message) (q : Held Message) → Proper m → AllByRecursion Proper q.records → AllByRecursion Proper (Rattle.rules.specs.Queues.put_in m q).records
 put_proper m q p h = go (leb q.room (length q.records))
   where
-    go : (z : Bool) → All Proper (cond z q.records (q.records ++ (m ∷ [])))
+    go : (z : Bool) → AllByRecursion Proper (cond z q.records (q.records ++ (m ∷ [])))
     go true = h
     go false = all_append Proper q.records m h p
 
@@ -172,26 +172,26 @@ abbrev pub SaysWell : Burst → Type 0
 SaysWell b = Sayable b.telegram
 
 pub record ValidWorld (w : World) : Type 0 where
-  pub stations : All StationWhole w.stations
+  pub stations : AllByRecursion StationWhole w.stations
   pub exchange : ExchangeWhole w.concentrator.exchange
-  pub bursts : All SaysWell w.bursts
+  pub bursts : AllByRecursion SaysWell w.bursts
 
-pub burst_valid : (l : List Burst) (k : ℕ) (b : Burst) → k < length l → get_or l k b ≡ b → All SaysWell l → SaysWell b
+pub burst_valid : (l : List Burst) (k : ℕ) (b : Burst) → k < length l → get_or l k b ≡ b → AllByRecursion SaysWell l → SaysWell b
 burst_valid [] k b n e h = let w : ⊥ = omega arith in absurd w
 burst_valid (c ∷ l) zero b n e h = subst SaysWell e h.0
 burst_valid (c ∷ l) (suc k) b n e h = burst_valid l k b (omega arith) e h.1
 
-set_valid : (l : List Burst) (k : ℕ) (b : Burst) → SaysWell b → All SaysWell l → All SaysWell (set l k b)
+set_valid : (l : List Burst) (k : ℕ) (b : Burst) → SaysWell b → AllByRecursion SaysWell l → AllByRecursion SaysWell (set l k b)
 set_valid [] k b p h = tt
 set_valid (c ∷ l) zero b p h = (p, h.1)
 set_valid (c ∷ l) (suc k) b p h = (h.0, set_valid l k b p h.1)
 
-lost_valid : (l : List Burst) → All SaysWell l → All SaysWell (map line.lost_everywhere l)
+lost_valid : (l : List Burst) → AllByRecursion SaysWell l → AllByRecursion SaysWell (map line.lost_everywhere l)
 lost_valid [] h = tt
 lost_valid (b ∷ l) h = (h.0, lost_valid l h.1)
 
 module _ (w : World) (ok : ValidWorld w) where
-  change_whole : (a : ℕ) (f : Station → Station) → ((s : Station) → StationWhole s → StationWhole (f s)) → All StationWhole (books.change a f w.stations)
+  change_whole : (a : ℕ) (f : Station → Station) → ((s : Station) → StationWhole s → StationWhole (f s)) → AllByRecursion StationWhole (books.change a f w.stations)
   change_whole a f h = all_changed StationWhole StationWhole a f w.stations (λ s e p. h s p) (λ s e p. p) ok.stations
 
   leaves_valid : (e k : ℕ) (b : Burst) → line.OnWay e k b w → ValidWorld (leaves e k b w)
@@ -235,7 +235,7 @@ module _ (w : World) (ok : ValidWorld w) where
   concluded_valid n t (Err f) h = ok
   concluded_valid n t (Ok x) (closes {t = t'} y o e v) = ends_valid n (co.closing y o (co.flags_of t') w.concentrator) refl
 
-  fetched_valid : (l : List Arrival) → All StationWhole (fetched l w.stations)
+  fetched_valid : (l : List Arrival) → AllByRecursion StationWhole (fetched l w.stations)
   fetched_valid [] = ok.stations
   fetched_valid (m ∷ l) = change_whole m.station _ (λ s h. h)
 
@@ -294,7 +294,7 @@ module _ {X : Type 0} (F : Ghosts X) where
   valid_run begin ok = ok
   valid_run (then r e lim) ok = valid_step e _ lim (valid_run r ok)
 
-new_whole : (l : List Fitting) → Apart l → All StationWhole (map new_station l)
+new_whole : (l : List Fitting) → Apart l → AllByRecursion StationWhole (map new_station l)
 new_whole [] h = tt
 new_whole (f ∷ l) h = (record { known = h.0; class1 = tt; class2 = tt; stored = tt }, new_whole l h.2)
 

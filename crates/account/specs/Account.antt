@@ -21,7 +21,7 @@ use Rattle.rules.specs.declared.records.Class.TheVariants.{First, Second}
 use Rattle.rules.specs.declared.records.Exchange.{Exchange}
 use Rattle.rules.specs.declared.records.Request.{Request}
 use Rattle.rules.specs.declared.records.Request.TheVariants.{Reset, Status, Send, Poll}
-use Rattle.std.specs.List.{AllByRecursion as All}
+use Rattle.std.specs.List.{AllByRecursion}
 
 -- the messages of items
 abbrev pub messages : List Item → List Message
@@ -75,8 +75,8 @@ pub record OffersAccounted (k : Concentrator) (s : Station) : Type 0 where
   pub numbered : Numbered (map (λ o. o.item) s.up.offered)
   pub each : (c : Class) → of_class c s.up.offered ≡ reverse (waiting c s.up) ++ of_class c (offers_handed s.up.handed)
   pub waits : (c : Class) → messages (waiting c s.up) ≡ (class_queue c s.reader).records
-  pub waiting_so : (c : Class) → All (λ i. offer_state i.number s.up.handed ≡ Waiting) (waiting c s.up)
-  pub handed_so : All (λ h. offer_state h.offer.item.number s.up.handed ≡ h.state) s.up.handed
+  pub waiting_so : (c : Class) → AllByRecursion (λ i. offer_state i.number s.up.handed ≡ Waiting) (waiting c s.up)
+  pub handed_so : AllByRecursion (λ h. offer_state h.offer.item.number s.up.handed ≡ h.state) s.up.handed
   pub out : Handed s.reader.out s.up.handed
   pub accounted : HandOutsCome s.up.handed s.up.arrived
   pub kept : messages s.up.arrived ≡ from_station s.reader.address (reverse k.arrivals.records) ++ s.up.fetched
@@ -107,7 +107,7 @@ pub record NothingMoved (s t : Station) : Type 0 where
 -- no two readers share an address, and each is 1 to 32
 abbrev pub Apart : List Fitting → Type 0
 Apart [] = Unit {0}
-Apart (f ∷ l) = (within 1 32 f.address ≡ true) × All (λ g. (g.address == f.address) ≡ false) l × Apart l
+Apart (f ∷ l) = (within 1 32 f.address ≡ true) × AllByRecursion (λ g. (g.address == f.address) ≡ false) l × Apart l
 
 -- The two ends over a format. After every run of a new line the open exchange has its free slots, so that no report and no arrival is
 -- ever dropped, and the account of each reader holds. And on every run from there, as long as no more resets of it are done, a link

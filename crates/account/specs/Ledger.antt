@@ -11,7 +11,7 @@ use Rattle.rules.specs.declared.message.Message.{Message}
 use Rattle.rules.specs.declared.records.Class.{Class}
 use Rattle.rules.specs.declared.records.Mark.TheVariants.{Settled, Doubtful}
 use Rattle.rules.specs.declared.records.Outcome.TheVariants as outcome
-use Rattle.std.specs.List.{AllByRecursion as All}
+use Rattle.std.specs.List.{AllByRecursion}
 
 -- How often an item comes at the other end.
 pub data Fate : Type 0 where
@@ -80,7 +80,7 @@ HasEnded (Ended outcome.Doubtful) = Unit {0}
 
 -- every send has ended
 abbrev pub AllEnded : List Sending → Type 0
-AllEnded l = All (λ s. HasEnded s.state) l
+AllEnded l = AllByRecursion (λ s. HasEnded s.state) l
 
 -- the send whose exchange is open, if one is, is the newest; every other has ended
 pub data Requested : Option Message → List Sending → Type 0 where
@@ -96,7 +96,7 @@ IsMarked (Marked m) = Unit {0}
 
 -- every hand-out is marked
 abbrev pub AllMarked : List HandOut → Type 0
-AllMarked l = All (λ h. IsMarked h.state) l
+AllMarked l = AllByRecursion (λ h. IsMarked h.state) l
 
 -- the message that is out at a reader, if one is, is the newest hand-out; every other is settled or doubtful
 pub data Handed : Option Message → List HandOut → Type 0 where

@@ -11,7 +11,7 @@ use Rattle.rules.specs.Reader as rd
 use Rattle.rules.specs.Reader.{Turn}
 use Rattle.rules.specs.Telegrams.{carried, telegram_read}
 use Rattle.rules.specs.declared.telegram.Telegram.{Telegram}
-use Rattle.std.specs.List.{AllByRecursion as All}
+use Rattle.std.specs.List.{AllByRecursion}
 
 -- A burst: what it says, the number of its request or hand-out, and of each end (0 the concentrator, 1 to 32 the readers) whether
 -- it is still on the way there.
@@ -119,11 +119,11 @@ pub data Event : Type 0 where
 
 -- no burst is on the way to an end
 abbrev pub NoneTo : ℕ → List Burst → Type 0
-NoneTo e l = All (λ b. on_way e b ≡ false) l
+NoneTo e l = AllByRecursion (λ b. on_way e b ≡ false) l
 
 -- no burst is on the way to any end of the line
 abbrev pub Silent : World → Type 0
-Silent w = NoneTo 0 w.bursts × All (λ s. NoneTo s.reader.address w.bursts) w.stations
+Silent w = NoneTo 0 w.bursts × AllByRecursion (λ s. NoneTo s.reader.address w.bursts) w.stations
 
 -- burst k, which is b, is on the way to an end
 abbrev pub OnWay : ℕ → ℕ → Burst → World → Type 0
@@ -131,7 +131,7 @@ OnWay e k b w = (k < length w.bursts) × (slice_index_or w.bursts k b ≡ b) × 
 
 -- what a caller hands over is octets
 abbrev pub Octets : List ℕ → Type 0
-Octets l = All (λ o. o < 256) l
+Octets l = AllByRecursion (λ o. o < 256) l
 
 -- what is handed over with a request
 abbrev pub OctetsAsked : Asking → Type 0

@@ -31,7 +31,7 @@ use Rattle.rules.specs.declared.records.Request.TheVariants.{Reset, Status, Send
 use Rattle.std.proofs.ByRecursion.{All-push, All-weaker}
 use Rattle.std.proofs.lemmas.List.{length-map, length_push, length-reverse, length-set, map_push}
 use Rattle.std.proofs.lemmas.Bool.{cond-false}
-use Rattle.std.specs.List.{AllByRecursion as All}
+use Rattle.std.specs.List.{AllByRecursion}
 
 -- ## the sends
 
@@ -122,14 +122,14 @@ either_shown : (c : Class) (b y : List Item) {a x : List ℕ} → a ≡ numbers 
 either_shown First b y p q = p
 either_shown Second b y p q = q
 
-either_given : (c : Class) (P : ℕ → Type 0) (a x : List ℕ) → All P a → All P x → All P (by_class c a x)
+either_given : (c : Class) (P : ℕ → Type 0) (a x : List ℕ) → AllByRecursion P a → AllByRecursion P x → AllByRecursion P (by_class c a x)
 either_given First P a x p q = p
 either_given Second P a x p q = q
 
 waits_shown : (c : Class) (v : SeenUp) (u : Up) → ShowsUp v u → waiting c v ≡ numbers (account_waiting c u)
 waits_shown c v u h = either_shown c u.waiting1 u.waiting2 h.waiting1 h.waiting2
 
-waits_given : (c : Class) (v : SeenUp) (u : Up) → ShowsUp v u → All (Given v) (waiting c v)
+waits_given : (c : Class) (v : SeenUp) (u : Up) → ShowsUp v u → AllByRecursion (Given v) (waiting c v)
 waits_given c v u h = either_given c (Given v) v.waiting1 v.waiting2 h.given1 h.given2
 
 pub shows_offered : (o : rd.Offered) (v : Seen) (s : Station) → Shows v s → Shows (offered_seen o v) (account_offered o s)
@@ -145,7 +145,7 @@ shows_offered (rd.accepted c m r) v s h =
     ap (λ k. w ++ ((k + 1) ∷ [])) u.accepted ∙
     ap (λ l. l ++ (item.number ∷ [])) (waits_shown c v.up s.up u) ∙
     sym (map_push (λ i. i.number) (account_waiting c s.up) item) in
-    let all_next : All Q (w ++ ((length v.up.offers + 1) ∷ [])) =
+    let all_next : AllByRecursion Q (w ++ ((length v.up.offers + 1) ∷ [])) =
     All-push Q w (length v.up.offers + 1) (All-weaker P Q more w (waits_given c v.up s.up u)) (omega (arith, length_push v.up.offers Waiting)) in (
       h.0,
       record {
@@ -180,7 +180,7 @@ shows_marked (Some k) v s h =
     let u = h.1 in
     let j = v.up.newest in
     let l = v.up.offers in
-    let all : (ns : List ℕ) → All (Given v.up) ns → All (Given (marked k v).up) ns = All-weaker (Given v.up) (Given (marked k v).up) (given_still v (Marked k)) in (
+    let all : (ns : List ℕ) → AllByRecursion (Given v.up) ns → AllByRecursion (Given (marked k v).up) ns = All-weaker (Given v.up) (Given (marked k v).up) (given_still v (Marked k)) in (
       h.0,
       record {
         accepted = with_state_length j (Marked k) l ∙ u.accepted;
@@ -210,11 +210,11 @@ left_shown : (l : List Item) → take_contents (numbers l) ≡ numbers (take_con
 left_shown [] = refl
 left_shown (i ∷ l) = refl
 
-first_given : (v : SeenUp) (l : List ℕ) → All (Given v) l → Given v (first_of l)
+first_given : (v : SeenUp) (l : List ℕ) → AllByRecursion (Given v) l → Given v (first_of l)
 first_given v [] h = omega arith
 first_given v (n ∷ l) h = h.0
 
-left_given : (P : ℕ → Type 0) (l : List ℕ) → All P l → All P (take_contents l)
+left_given : (P : ℕ → Type 0) (l : List ℕ) → AllByRecursion P l → AllByRecursion P (take_contents l)
 left_given P [] h = tt
 left_given P (n ∷ l) h = h.1
 
@@ -250,8 +250,8 @@ shows_given (gave c m) v s h =
     let left : take_contents w ≡ numbers (take_contents items) = ap take_contents (waits_shown c v.up s.up u) ∙ left_shown items in
     let was_given : Given v.up j = first_given v.up w (waits_given c v.up s.up u) in
     let more : (n : ℕ) → Given v.up n → Q n = λ n le. omega (arith, with_state_length j Out l) in
-    let all : (ns : List ℕ) → All (Given v.up) ns → All Q ns = All-weaker (Given v.up) Q more in
-    let all_left : All Q (take_contents w) = left_given Q w (all w (waits_given c v.up s.up u)) in (
+    let all : (ns : List ℕ) → AllByRecursion (Given v.up) ns → AllByRecursion Q ns = All-weaker (Given v.up) Q more in
+    let all_left : AllByRecursion Q (take_contents w) = left_given Q w (all w (waits_given c v.up s.up u)) in (
       h.0,
       record {
         accepted = with_state_length j Out l ∙ u.accepted;

@@ -6,7 +6,7 @@ use Rattle.account.specs.declared.books.Item.{Item}
 use Rattle.account.specs.declared.books.OfferState.{OfferState}
 use Rattle.account.specs.declared.books.OfferState.TheVariants.{Waiting}
 use Rattle.books.specs.Seen.{Seen, SeenDown, SeenUp}
-use Rattle.std.specs.List.{AllByRecursion as All}
+use Rattle.std.specs.List.{AllByRecursion}
 
 -- the numbers of items
 abbrev pub numbers : List Item → List ℕ
@@ -35,8 +35,8 @@ pub record ShowsUp (v : SeenUp) (u : Up) : Type 0 where
   pub waiting2 : v.waiting2 ≡ numbers u.waiting2
   pub newest : v.newest ≡ newest_hand_out u.handed
   pub arrived : v.arrived ≡ reverse (numbers u.arrived)
-  pub given1 : All (Given v) v.waiting1
-  pub given2 : All (Given v) v.waiting2
+  pub given1 : AllByRecursion (Given v) v.waiting1
+  pub given2 : AllByRecursion (Given v) v.waiting2
   pub given : Given v v.newest
 
 abbrev pub Shows : Seen → Station → Type 0

@@ -3,7 +3,7 @@ use Rattle.std.specs.Prelude.{ℕ, ◌-◌, ◌<◌, ◌≤◌, List, [], ◌++�
 use Rattle.fault.specs.declared.Fault.{Fault}
 use Rattle.frame.specs.declared.Content.{Content}
 use Rattle.frame.specs.declared.Content.TheVariants.{Single, Fixed, Variable}
-use Rattle.std.specs.List.{AllByRecursion as All}
+use Rattle.std.specs.List.{AllByRecursion}
 
 -- single; fixed with control and address octet; variable with control, address and user octets
 pub data Meaning : Type 0 where
@@ -15,7 +15,7 @@ pub data Meaning : Type 0 where
 abbrev pub Valid : Meaning → Type 0
 Valid single = Unit {0}
 Valid (fixed c a) = (c < 256) × (a < 256)
-Valid (variable c a us) = (c < 256) × (a < 256) × (1 ≤ length us) × (length us ≤ 64) × All (λ u. u < 256) us
+Valid (variable c a us) = (c < 256) × (a < 256) × (1 ≤ length us) × (length us ≤ 64) × AllByRecursion (λ u. u < 256) us
 
 -- what a content means, with its record of user octets
 abbrev pub meaning : Content → List ℕ → Meaning

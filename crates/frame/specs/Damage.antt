@@ -1,10 +1,10 @@
 -- What a line can do to a burst.
 use Rattle.std.specs.Prelude.{◌≡◌, ℕ, ◌+◌, ◌^◌, ◌<◌, ◌≤◌, List, [], ◌∷◌, length, take, bit_xor, count_ones}
-use Rattle.std.specs.List.{AllByRecursion as All}
+use Rattle.std.specs.List.{AllByRecursion}
 
 -- every symbol has at most this many bits
 abbrev pub Fits : ℕ → List ℕ → Type 0
-Fits width b = All (λ s. s < 2 ^ width) b
+Fits width b = AllByRecursion (λ s. s < 2 ^ width) b
 
 -- in how many bits two bursts of one length differ
 abbrev pub distance : List ℕ → List ℕ → ℕ

@@ -15,7 +15,7 @@ use Rattle.ft12.specs.Verdicts.{close_checked, counted_verdict, fixed_verdict, o
 use Rattle.std.proofs.ByRecursion.{All-from_get_or, All-take}
 use Rattle.std.proofs.lemmas.List.{get_or-drop, length-drop, length-take}
 use Rattle.std.proofs.lemmas.Bool.Decides.{nat_tests}
-use Rattle.std.specs.List.{AllByRecursion as All}
+use Rattle.std.specs.List.{AllByRecursion}
 
 -- the check octet and the end are right
 close_ok :
@@ -128,7 +128,7 @@ exact_counted os l m o at0 at1 e =
     let long : length os ≡ l + 6 = grind (arith, nat_tests, p3.0) in
     let count : length us ≡ n = simp (length-take, length-drop) (omega arith) in
     let l_is : l ≡ length us + 2 = omega (arith, count, some) in
-    let octets : All (λ u. u < 256) us = All-take (λ u. u < 256) n (drop 6 os) (All-from_get_or (λ u. u < 256) (drop 6 os) 0 (λ i h. each_drop os 6 o i)) in
+    let octets : AllByRecursion (λ u. u < 256) us = All-take (λ u. u < 256) n (drop 6 os) (All-from_get_or (λ u. u < 256) (drop 6 os) 0 (λ i h. each_drop os 6 o i)) in
     let covered : take l (drop 4 os) ≡ c ∷ a ∷ us = covered_of os l n (omega (arith, some)) (omega (arith, long, some)) in
     let back : l + 4 - 4 ≡ l = omega arith in
     let check : slice_index_or os (l + 4) 0 ≡ check_of (c ∷ a ∷ us) = k.0 ∙ ap (λ j. check_of (take j (drop 4 os))) back ∙ ap check_of covered in

@@ -9,11 +9,11 @@ use Rattle.ft12.specs.Frames.{check_of, frame_of, octets_of}
 use Rattle.ft12.specs.Symbols.{symbol_of}
 use Rattle.std.proofs.ByRecursion.{All-append}
 use Rattle.std.proofs.lemmas.List.{length-append, length-map}
-use Rattle.std.specs.List.{AllByRecursion as All}
+use Rattle.std.specs.List.{AllByRecursion}
 
 -- every number is an octet
 abbrev pub Octets : List ℕ → Type 0
-Octets os = All (λ x. x < 256) os
+Octets os = AllByRecursion (λ x. x < 256) os
 
 pub octets_length : (c a : ℕ) (us : List ℕ) → length (octets_of (variable c a us)) ≡ length us + 8
 octets_length c a us = simp length-append (omega arith)

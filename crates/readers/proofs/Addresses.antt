@@ -8,7 +8,7 @@ use Rattle.rules.specs.Messages.{within}
 use Rattle.std.proofs.ByRecursion.{All-get_or}
 use Rattle.std.proofs.lemmas.Bool.{eq-eqb, eqb-false, eqb-true}
 use Rattle.std.proofs.lemmas.Bool.Decides.{nat_tests}
-use Rattle.std.specs.List.{AllByRecursion as All, slice_get}
+use Rattle.std.specs.List.{AllByRecursion, slice_get}
 
 abbrev address_of : Station → ℕ
 address_of s = s.reader.address
@@ -38,16 +38,16 @@ none_some e = let z : ◌≡◌ {A = ℕ} 0 1 = cc in let w : ⊥ = omega arith 
 some_same : {X : Type 0} {x y : X} → Some x ≡ Some y → x ≡ y
 some_same e = cc
 
-all_at : (P : ℕ → Type 0) (l : List Station) (i : ℕ) (s : Station) → All P (addresses l) → slice_get l i ≡ Some s → P (address_of s)
+all_at : (P : ℕ → Type 0) (l : List Station) (i : ℕ) (s : Station) → AllByRecursion P (addresses l) → slice_get l i ≡ Some s → P (address_of s)
 all_at P [] i s h e = none_some e
 all_at P (t ∷ l) zero s h e = subst (λ u. P (address_of u)) (some_same e) h.0
 all_at P (t ∷ l) (suc i) s h e = all_at P l i s h.1 e
 
-pub found_none : (a : ℕ) (l : List Station) → All (λ b. eqb b a ≡ false) (addresses l) → found a l ≡ None
+pub found_none : (a : ℕ) (l : List Station) → AllByRecursion (λ b. eqb b a ≡ false) (addresses l) → found a l ≡ None
 found_none a [] h = refl
 found_none a (s ∷ l) h = ap (λ z. cond z (Some s) (found a l)) h.0 ∙ found_none a l h.1
 
-pub change_none : (a : ℕ) (f : Station → Station) (l : List Station) → All (λ b. eqb b a ≡ false) (addresses l) → change a f l ≡ l
+pub change_none : (a : ℕ) (f : Station → Station) (l : List Station) → AllByRecursion (λ b. eqb b a ≡ false) (addresses l) → change a f l ≡ l
 change_none a f [] h = refl
 change_none a f (s ∷ l) h = ap₂ (λ z r. cond z (f s) s ∷ r) h.0 (change_none a f l h.1)
 
@@ -62,7 +62,7 @@ pub change_at : (f : Station → Station) (l : List Station) (i : ℕ) (s : Stat
 change_at f [] i s p e = none_some e
 change_at f (t ∷ l) zero s p e =
     let q = some_same e in
-    let n = subst (λ u. All (λ b. eqb b (address_of u) ≡ false) (addresses l)) q p.1 in
+    let n = subst (λ u. AllByRecursion (λ b. eqb b (address_of u) ≡ false) (addresses l)) q p.1 in
     ap₂ (λ z r. cond z (f t) t ∷ r) (eq-eqb (address_of t) (address_of s) (ap address_of q)) (change_none (address_of s) f l n) ∙ ap (λ u. f u ∷ l) q
 change_at f (t ∷ l) (suc i) s p e =
     let n = turned_round (address_of s) (address_of t) false (all_at (λ b. eqb b (address_of t) ≡ false) l i s p.1 e) in
@@ -84,7 +84,7 @@ module _ {S : Type 0} (R : S → Station → Type 0) (xs : List S) (ys : List St
 
 -- no reader in memory has this address
 pub none_there : {S : Type 0} (R : S → Station → Type 0) (xs : List S) (ys : List Station) (a : ℕ) → Paired R xs ys
-    → All (λ x. (s : Station) → R x s → eqb (address_of s) a ≡ false) xs → All (λ b. eqb b a ≡ false) (addresses ys)
+    → AllByRecursion (λ x. (s : Station) → R x s → eqb (address_of s) a ≡ false) xs → AllByRecursion (λ b. eqb b a ≡ false) (addresses ys)
 none_there R [] [] a p h = tt
 none_there R [] (y ∷ ys) a p h = absurd p
 none_there R (x ∷ xs) [] a p h = absurd p
@@ -98,7 +98,7 @@ change_alike a f g (t ∷ l) s p e q = go (eqb (address_of t) a) refl e (λ d. c
     go : (z : Bool) → eqb (address_of t) a ≡ z → cond z (Some t) (found a l) ≡ Some s → (found a l ≡ Some s → change a f l ≡ change a g l)
         → cond z (f t) t ∷ change a f l ≡ cond z (g t) t ∷ change a g l
     go true is d k =
-        let n = subst (λ b. All (λ c. eqb c b ≡ false) (addresses l)) (eqb-true (address_of t) a is) p.1 in
+        let n = subst (λ b. AllByRecursion (λ c. eqb c b ≡ false) (addresses l)) (eqb-true (address_of t) a is) p.1 in
         let same : f t ≡ g t = subst (λ u. f u ≡ g u) (sym (some_same d)) q in
         ap₂ ◌∷◌ same (change_none a f l n ∙ sym (change_none a g l n))
     go false is d k = ap (λ r. t ∷ r) (k d)

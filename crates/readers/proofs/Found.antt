@@ -11,7 +11,7 @@ use Rattle.station.specs.declared.Station.{Station}
 use Rattle.std.proofs.lemmas.List.{get_or-map, get_or-set_same, length-map}
 use Rattle.std.proofs.lemmas.Bool.{eq-eqb, eqb-true, ne_eqb, true≢false}
 use Rattle.std.specs.Option.{option_map}
-use Rattle.std.specs.List.{AllByRecursion as All}
+use Rattle.std.specs.List.{AllByRecursion}
 
 none_some : {A X : Type 0} {x : X} → None ≡ Some x → A
 none_some e = let z : ◌≡◌ {A = ℕ} 0 1 = cc in let w : ⊥ = omega arith in absurd w
@@ -41,11 +41,11 @@ place_some a (b ∷ l) i e = go (eqb b a) refl (place a l) e (λ j. place_some a
     go false is None d k = none_some d
     go false is (Some j) d k = let q = k j refl in subst (λ n. (n < length (b ∷ l)) × (get_or (b ∷ l) n 0 ≡ a)) (some_same d) (omega (arith, q.0), q.1)
 
-place_none : (a : ℕ) (l : List ℕ) → place a l ≡ None → All (λ b. eqb b a ≡ false) l
+place_none : (a : ℕ) (l : List ℕ) → place a l ≡ None → AllByRecursion (λ b. eqb b a ≡ false) l
 place_none a [] e = tt
 place_none a (b ∷ l) e = go (eqb b a) refl (place a l) e (λ d. place_none a l d)
   where
-    go : (z : Bool) → eqb b a ≡ z → (o : Option ℕ) → cond z (Some 0) (option_map suc o) ≡ None → (o ≡ None → All (λ c. eqb c a ≡ false) l) → All (λ c. eqb c a ≡ false) (b ∷ l)
+    go : (z : Bool) → eqb b a ≡ z → (o : Option ℕ) → cond z (Some 0) (option_map suc o) ≡ None → (o ≡ None → AllByRecursion (λ c. eqb c a ≡ false) l) → AllByRecursion (λ c. eqb c a ≡ false) (b ∷ l)
     go true is o d k = none_some (sym d)
     go false is None d k = (is, k refl)
     go false is (Some j) d k = none_some (sym d)
@@ -104,14 +104,14 @@ module _ (a : ℕ) (xs : List Kept) (e : None ≡ place_of a xs) where
   pub at_none : at a xs ≡ None
   at_none = go xs (place_none a (map address_of xs) (sym e))
     where
-      go : (l : List Kept) → All (λ b. eqb b a ≡ false) (map address_of l) → at a l ≡ None
+      go : (l : List Kept) → AllByRecursion (λ b. eqb b a ≡ false) (map address_of l) → at a l ≡ None
       go [] h = refl
       go (x ∷ l) h = ap (λ z. cond z (Some x) (at a l)) h.0 ∙ go l h.1
 
-  pub no_partner : (ys : List account.Station) → Paired ShowsReader xs ys → All (λ b. eqb b a ≡ false) (addresses ys)
+  pub no_partner : (ys : List account.Station) → Paired ShowsReader xs ys → AllByRecursion (λ b. eqb b a ≡ false) (addresses ys)
   no_partner ys p = none_there ShowsReader xs ys a p (go xs (place_none a (map address_of xs) (sym e)))
     where
-      go : (l : List Kept) → All (λ b. eqb b a ≡ false) (map address_of l) → All (λ x. (s : account.Station) → ShowsReader x s → eqb s.reader.address a ≡ false) l
+      go : (l : List Kept) → AllByRecursion (λ b. eqb b a ≡ false) (map address_of l) → AllByRecursion (λ x. (s : account.Station) → ShowsReader x s → eqb s.reader.address a ≡ false) l
       go [] h = tt
       go (x ∷ l) h = (λ s k. ap (λ r. eqb r.address a) (sym k.0) ∙ h.0, go l h.1)
 

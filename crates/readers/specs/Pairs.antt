@@ -2,7 +2,7 @@
 use Rattle.std.specs.Prelude.{◌≡◌, ℕ, true, false, List, [], ◌∷◌, map, ◌==◌}
 use Rattle.account.specs.Books.{Station}
 use Rattle.rules.specs.Messages.{within}
-use Rattle.std.specs.List.{AllByRecursion as All}
+use Rattle.std.specs.List.{AllByRecursion}
 
 -- each with the one at its place, and as many of them
 abbrev pub Paired : {A B : Type 0} → (A → B → Type 0) → List A → List B → Type 0
@@ -18,7 +18,7 @@ addresses l = map (λ s. s.reader.address) l
 -- each 1 to 32, and none twice
 abbrev pub Spaced : List ℕ → Type 0
 Spaced [] = Unit {0}
-Spaced (a ∷ l) = (within 1 32 a ≡ true) × All (λ b. (b == a) ≡ false) l × Spaced l
+Spaced (a ∷ l) = (within 1 32 a ≡ true) × AllByRecursion (λ b. (b == a) ≡ false) l × Spaced l
 
 module _ {S : Type 0} (Shows : S → Station → Type 0) where
   -- whatever readers at distinct addresses they showed before, they show these after

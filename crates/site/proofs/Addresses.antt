@@ -20,7 +20,7 @@ use Rattle.rules.specs.declared.records.Class.TheVariants.{First, Second}
 use Rattle.site.proofs.Ways.{EndsApart}
 use Rattle.site.specs.Shown.{Lawful, Since}
 use Rattle.std.proofs.lemmas.Bool.{eqb-true}
-use Rattle.std.specs.List.{AllByRecursion as All}
+use Rattle.std.specs.List.{AllByRecursion}
 
 abbrev address_of : Station → ℕ
 address_of s = s.reader.address
@@ -120,7 +120,7 @@ module _ {X : Type 0} (F : Ghosts X) where
   new_spaced [] a = tt
   new_spaced (f ∷ l) a = (a.0, others l a.1, new_spaced l a.2)
     where
-      others : (g : List Fitting) → All (λ x. eqb x.address f.address ≡ false) g → All (λ b. eqb b f.address ≡ false) (addresses (map new_station g))
+      others : (g : List Fitting) → AllByRecursion (λ x. eqb x.address f.address ≡ false) g → AllByRecursion (λ b. eqb b f.address ≡ false) (addresses (map new_station g))
       others [] h = tt
       others (x ∷ g) h = (h.0, others g h.1)
 

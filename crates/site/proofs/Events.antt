@@ -30,7 +30,7 @@ use Rattle.std.proofs.lemmas.List.{map_push}
 use Rattle.std.proofs.lemmas.Option.{slice_get-get_or}
 use Rattle.std.proofs.lemmas.Bool.{cond-true, eqb-true, ne_eqb}
 use Rattle.std.specs.Option.{option_map}
-use Rattle.std.specs.List.{AllByRecursion as All, slice_get}
+use Rattle.std.specs.List.{AllByRecursion, slice_get}
 
 get_d_any : {A : Type 0} (xs : List A) (i : ℕ) (d e : A) → i < length xs → get_or xs i d ≡ get_or xs i e
 get_d_any [] i d e h = absurd (omega arith)
@@ -58,7 +58,7 @@ module _ {X : Type 0} (F : Ghosts X) where
   new_valid : (r a p : ℕ) (l : List Fitting) → Apart l → ValidWorld (new_world r a p l)
   new_valid r a p l h = record { stations = go l h; exchange = tt; bursts = tt }
     where
-      go : (g : List Fitting) → Apart g → All Rattle.account.proofs.Valid.StationWhole (map new_station g)
+      go : (g : List Fitting) → Apart g → AllByRecursion Rattle.account.proofs.Valid.StationWhole (map new_station g)
       go [] k = tt
       go (f ∷ g) k = (record { known = k.0; class1 = tt; class2 = tt; stored = tt }, go g k.2)
 
@@ -79,7 +79,7 @@ module _ {X : Type 0} (F : Ghosts X) where
 abbrev one_end_more : View → View
 one_end_more v = record { bursts = v.bursts; quiet = v.quiet; ends = v.ends + 1 }
 
-apart_more : (l : List Fitting) (f : Fitting) → Apart l → within 1 32 f.address ≡ true → All (λ b. eqb b f.address ≡ false) (addresses (map new_station l))
+apart_more : (l : List Fitting) (f : Fitting) → Apart l → within 1 32 f.address ≡ true → AllByRecursion (λ b. eqb b f.address ≡ false) (addresses (map new_station l))
     → Apart (l ++ f ∷ [])
 apart_more [] f a k o = (k, tt, tt)
 apart_more (g ∷ l) f a k o = (a.0, all_append (λ h. eqb h.address g.address ≡ false) l f a.1 (turned_round g.address f.address false o.0), apart_more l f a.2 k o.1)
@@ -173,7 +173,7 @@ module _ {X : Type 0} (F : Ghosts X) where
         none = none_under_way F m.line (ends_of w.stations) w.bursts st.shown.line s
 
         go : (l : List Station) → ((i : ℕ) → i < length (addresses l) → NoneTo (get_or (addresses l) i 0) w.bursts)
-            → All (λ s. NoneTo s.reader.address w.bursts) l
+            → AllByRecursion (λ s. NoneTo s.reader.address w.bursts) l
         go [] h = tt
         go (x ∷ l) h = (h 0 (omega arith), go l (λ i k. h (suc i) (omega arith)))
 
@@ -404,7 +404,7 @@ module _ {X : Type 0} (F : Ghosts X) where
     stands_kept same k = record { shown = shown_kept m m' w apart k st.shown; lawful = subst (λ z. Lawful F z w) (sym same) st.lawful }
 
     -- a reader joins a line that is not started
-    pub stands_joined : (f : Fitting) → m.started ≡ false → m'.started ≡ false → within 1 32 f.address ≡ true → All (λ b. eqb b f.address ≡ false) (addresses w.stations)
+    pub stands_joined : (f : Fitting) → m.started ≡ false → m'.started ≡ false → within 1 32 f.address ≡ true → AllByRecursion (λ b. eqb b f.address ≡ false) (addresses w.stations)
         → m'.concentrator ≡ m.concentrator → (x : Kept) → m'.readers ≡ m.readers ++ x ∷ [] → ShowsReader x (new_station f) → m'.line ≡ memory.joined m.line
         → memory.open_to_join m.line ≡ true → Stands F m' (with_reader f w)
     stands_joined f off off' known other c x r q l can =
@@ -427,7 +427,7 @@ module _ {X : Type 0} (F : Ghosts X) where
             law.1,
             law.2,
             law.3 ++ f ∷ [],
-            apart_more law.3 f law.4 known (subst (λ u. All (λ b. eqb b f.address ≡ false) (addresses u.stations)) (sym is) other),
+            apart_more law.3 f law.4 known (subst (λ u. AllByRecursion (λ b. eqb b f.address ≡ false) (addresses u.stations)) (sym is) other),
             ap (λ z. record { concentrator = v.concentrator; stations = z; bursts = [] }) (map_push new_station law.3 f) ∙ ap (with_reader f) is,
           );
         }
