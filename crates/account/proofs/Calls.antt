@@ -100,7 +100,7 @@ module _ (k : Concentrator) (a : ℕ) where
       go true w = asked_known q o w
       go false w = declined
 
--- ## the time_out
+-- ## the time-out
 
 pub data Timing (k : Concentrator) : Result co.Timed Fault → Type 0 where
   not_timed : {f : Fault} → Timing k (Err f)

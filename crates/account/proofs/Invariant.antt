@@ -252,7 +252,7 @@ module _ (w : World) (i : Inv w) (k : ℕ) (b : Burst) (lim : OnWay 0 k b w) whe
       subst (λ z. Inv (concluded b.number (Ok (co.closing x o (co.flags_of z) w.concentrator)) w₀)) (sym same)
       (closing_inv x e (subst (λ z. State w.concentrator.links z w.bursts w.stations) e i.state) o (ap (verdict x) (sym same) ∙ v))
 
--- ## the time_out, on a silent line
+-- ## the time-out, on a silent line
 
 module _ (w : World) (i : Inv w) (quiet : Silent w) where
   silent_ways : AllByRecursion (λ s. keep (alive (address_of s)) (address_of s) w.bursts ≡ []) w.stations

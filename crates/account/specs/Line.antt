@@ -74,7 +74,7 @@ requested (Err f) w = w
 requested (Ok x) w =
     transmits x (record { concentrator = w.concentrator; stations = change x.exchange.station (asked x.exchange.request) w.stations; bursts = w.bursts })
 
--- a time_out: refused, the frame again, or doubt
+-- a time-out: refused, the frame again, or doubt
 abbrev pub timed : Result co.Timed Fault → World → World
 timed (Err f) w = w
 timed (Ok (co.again x)) w = transmits x w
@@ -165,7 +165,7 @@ module _ {X : Type 0} (F : Ghosts X) where
   abbrev pub HeardAs : Burst → List ℕ → Type 0
   HeardAs b heard = Damaged F.width F.guard (F.frame (carried b.telegram)) heard
 
-  -- the two limits of a run: a time_out needs a silent line, a hearing (or a loss) a burst on the way to that end
+  -- the two limits of a run: a time-out needs a silent line, a hearing (or a loss) a burst on the way to that end
   abbrev pub Limit : Event → World → Type 0
   Limit (requests short a q) w = OctetsAsked q
   Limit (times_out short) w = Silent w

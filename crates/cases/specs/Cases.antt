@@ -53,7 +53,7 @@ pub record TwoPolls : Type 0 where
   pub settled : mark_heard (hears poll0 (heard poll1 (reader5 (text41 ∷ text42 ∷ []) 1 []))) ≡ Some Settled
   pub which : (heard poll1 (reader5 (text41 ∷ text42 ∷ []) 1 [])).out ≡ Some text41
 
--- three repetitions and silence: the fourth time_out reports doubtful with 4 transmissions, and the next send gets 18
+-- three repetitions and silence: the fourth time-out reports doubtful with 4 transmissions, and the next send gets 18
 pub record Silence : Type 0 where
   pub reported : (silence (replicate 4 tt) (sent (send5 0x41 linked5) linked5)).reports.records ≡
       record { station = 5; service = Send; outcome = Doubtful; flags = no_flags; transmissions = 4 } ∷ []

@@ -48,7 +48,7 @@ abbrev pub sent : Result Sent Fault → Concentrator → Concentrator
 sent (Ok s) k = s.after
 sent (Err f) k = k
 
--- after a time_out
+-- after a time-out
 abbrev pub timed : Result Timed Fault → Concentrator → Concentrator
 timed (Ok (again s)) k = s.after
 timed (Ok (doubted e)) k = e.after

@@ -12,7 +12,7 @@ abbrev pub sent_after : Result Sent Fault → Concentrator → Concentrator
 sent_after (Err f) k = k
 sent_after (Ok s) k = s.after
 
--- after a time_out
+-- after a time-out
 abbrev pub timed_after : Result Timed Fault → Concentrator → Concentrator
 timed_after (Err f) k = k
 timed_after (Ok (again s)) k = s.after
@@ -44,7 +44,7 @@ module _ (frame : Meaning → List ℕ) where
   sent_buffer (Err f) buffer = buffer
   sent_buffer (Ok s) buffer = sent_frame s ++ drop (length (sent_frame s)) buffer
 
-  -- a time_out answers the same, and 0 where the exchange ends in doubt
+  -- a time-out answers the same, and 0 where the exchange ends in doubt
   abbrev pub timed_answer : Result Timed Fault → Result ℕ Fault
   timed_answer (Err f) = Err f
   timed_answer (Ok (again s)) = Ok (length (sent_frame s))

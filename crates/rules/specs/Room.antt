@@ -44,7 +44,7 @@ abbrev pub HearAppends : Flags → Result Ended Fault → Concentrator → Conce
 HearAppends flags (Err f) before after = Unit {0}
 HearAppends flags (Ok e) before after = Appended e.exchange e.ending flags before after
 
--- where a time_out ends one
+-- where a time-out ends one
 abbrev pub DoubtAppends : Result Timed Fault → Concentrator → Concentrator → Type 0
 DoubtAppends (Err f) before after = Unit {0}
 DoubtAppends (Ok (again s)) before after = Unit {0}

@@ -164,7 +164,7 @@ module _ {X : Type 0} (F : Ghosts X) where
             lawful = onward on (line.requests short a q) lim;
           }
 
-    -- ## a time_out on a silent line
+    -- ## a time-out on a silent line
 
     pub silence : memory.Silent m.line → line.Silent w
     silence s = (none 0 (omega arith), go w.stations (λ i h. none (suc i) (omega arith)))

@@ -231,7 +231,7 @@ module _ {X : Type 0} (F : Ghosts X) where
       (subst (λ p. Comes r (sent_as m₁ (co.request (ltb p F.longest) a q m₁.concentrator)) m₁ m' (λ w. line.requests (ltb p F.longest) a q)) n
       (request_goes m₁ m₂ m' (ltb (length b₀) F.longest) a q lim b₀ b₁ sent r readers same _ refl (asks m₁.concentrator a (ltb (length b₀) F.longest) q lim) s k b t))
 
-  -- ## a time_out
+  -- ## a time-out
 
   -- what the code makes of what the concentrator answered
   abbrev pub TimedSo : Option Exchange → Memory → Memory → List ℕ → Result TimedOut Trouble → Result ℕ Fault → Type 0
@@ -279,7 +279,7 @@ module _ {X : Type 0} (F : Ghosts X) where
         doubted F m m' w st c.3 short silent (co.closing x ending.Doubted co.no_flags m.concentrator) is (c.0 ∙ k)
         (subst (λ y. Changes ShowsReader y m'.readers (change x.station (ended 0 x.request ending.Doubted))) readers (c.1 ending.Doubted refl)) (c.2 ∙ same))
 
-  -- a time_out, after what it needs was prepared: m₁ is the memory then
+  -- a time-out, after what it needs was prepared: m₁ is the memory then
   pub time_outs_come : (m m₁ m₂ m' : Memory) (places : ℕ) → Silent m.line → (x : Option Exchange) → x ≡ m.concentrator.exchange → (b₀ b₁ : List ℕ) (timed : Result ℕ Fault) (r : Result TimedOut Trouble)
       → m₁ ≡ m → length b₀ ≡ places → m₂.readers ≡ m₁.readers → m₂.line ≡ m₁.line
       → timed ≡ timed_answer F.frame (co.time_out (ltb (length b₀) F.longest) m₁.concentrator)

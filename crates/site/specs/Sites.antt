@@ -85,7 +85,7 @@ abbrev pub sent_as : Memory → Result co.Sent Fault → Result ℕ Trouble
 sent_as m (Ok x) = Ok (next_burst m)
 sent_as m (Err f) = Err (Refused f)
 
--- a time_out: the k of its burst, or doubt
+-- a time-out: the k of its burst, or doubt
 abbrev pub timed_as : Memory → Result co.Timed Fault → Result TimedOut Trouble
 timed_as m (Ok (co.again x)) = Ok (Repeated (next_burst m))
 timed_as m (Ok (co.doubted x)) = Ok Doubted

@@ -1,4 +1,4 @@
-// What the concentrator sends: requests, and what a time_out repeats.
+// What the concentrator sends: requests, and what a time-out repeats.
 ghost use Rattle.account.specs.Line.{requests, times_out};
 ghost use Rattle.line.specs.Lines.{room};
 ghost use Rattle.line.specs.Ways.{Silent, as_sent, launched};

@@ -9,7 +9,7 @@ pub enum Trouble {
     Refused(Fault),
     // The burst is not on the way to that end, or there is no such burst.
     NotOnWay,
-    // A time_out waits for a silent line.
+    // A time-out waits for a silent line.
     NotSilent,
     // The line may not do this damage to that burst.
     Damaged(DamageError),
@@ -22,7 +22,7 @@ pub enum Trouble {
     OutOfMemory,
 }
 
-// What a time_out came to: the frame went out again as this burst, or the exchange ended in doubt.
+// What a time-out came to: the frame went out again as this burst, or the exchange ended in doubt.
 #[derive(Clone, Copy)]
 pub enum TimedOut {
     Repeated(usize),

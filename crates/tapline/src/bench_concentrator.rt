@@ -116,7 +116,7 @@ fn request<F: Format>(
     }
 }
 
-// The frame of a request or a repetition; at the last time_out there is none.
+// The frame of a request or a repetition; at the last time-out there is none.
 fn answer_sent<F: Format>(
     sent: Result<usize, Fault>,
     buffer: &[u16],

@@ -20,14 +20,16 @@ use input::{Reading, read_line, without_end};
 use session::Session;
 use std::alloc::AllocError;
 use std::io::{BufRead, BufReader, Write};
+use std::process::ExitCode;
 use std::{env, fs, io};
 
-fn main(rt: HostRuntime) -> anyhow::Result<()> {
+fn main(rt: HostRuntime) -> anyhow::Result<ExitCode> {
     let clean = run(&rt)?;
     if clean {
-        return Ok(());
+        return Ok(ExitCode::SUCCESS);
     }
-    Err(anyhow!("some line was no command"))
+    // Some line was no command, and was answered so.
+    Ok(ExitCode::FAILURE)
 }
 
 // Answers the script that the arguments name; whether every line of it was a command.
