@@ -24,12 +24,12 @@ use std::process::ExitCode;
 use std::{env, fs, io};
 
 fn main(rt: HostRuntime) -> anyhow::Result<ExitCode> {
-    let clean = run(&rt)?;
-    if clean {
-        return Ok(ExitCode::SUCCESS);
+    // A line that was no command has its answer already, and only the status tells of it.
+    if run(&rt)? {
+        Ok(ExitCode::SUCCESS)
+    } else {
+        Ok(ExitCode::FAILURE)
     }
-    // Some line was no command, and was answered so.
-    Ok(ExitCode::FAILURE)
 }
 
 // Answers the script that the arguments name; whether every line of it was a command.
