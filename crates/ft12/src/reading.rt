@@ -1,23 +1,11 @@
 // Reading: the octets of a burst whose symbols are sound, checked as a frame.
-ghost use Rattle.std.specs.Prelude.{◌≡◌, ◌+◌, ◌≤◌, map, length, take};
+ghost use Rattle.std.specs.Prelude.{◌≡◌, ◌+◌, ◌≤◌, length};
 ghost use Rattle.frame.specs.Contents.{content_read, filled_record};
-ghost use Rattle.ft12.specs.Symbols.{octet_of};
 ghost use Rattle.ft12.specs.Verdicts.{close_checked, fixed_verdict, octets_verdict, single_verdict, variable_verdict};
 
-use crate::symbol::decode;
-use crate::{END, FIXED, Ft12, SINGLE, VARIABLE, check_octet};
+use crate::{END, FIXED, SINGLE, VARIABLE, check_octet};
 use fault::{Cause, Fault};
-use frame::{Content, Control, Format, UserOctets, fill_record};
-
-// The octets of a burst, put at the front of the array.
-pub(crate) fn decode_burst(burst: &[u16], octets: &mut [u8; Ft12::LONGEST])
-    requires { length burst.now ≤ 72 }
-    ensures { take (length burst.now) octets.new ≡ map octet_of burst.now }
-{
-    for (i, symbol) in burst.iter().enumerate() {
-        octets[i] = decode(*symbol);
-    }
-}
+use frame::{Content, Control, UserOctets, fill_record};
 
 // The check octet at a place, which covers the octets before it from the first one on; and the end after it.
 fn check_close(octets: &[u8], first: usize, place: usize) -> Result<(), Fault>

@@ -1,22 +1,12 @@
 // Reading: the octets of a burst whose symbols are sound, checked as a frame.
-ghost use Rattle.std.specs.Prelude.{◌≡◌, ◌%◌, ◌≤◌, map, length, take};
+ghost use Rattle.std.specs.Prelude.{◌≡◌, ◌≤◌, length};
 ghost use Rattle.frame.specs.Contents.{content_read, filled_record};
 ghost use Rattle.ft3.specs.Verdicts.{block_checked, fixed_verdict, headed_verdict, octets_verdict, partner_checked, single_verdict, variable_verdict};
 
-use crate::{BLOCK, CHECK, Ft3, HEADED, HEADED_PARTNER, HEADER, SEALED, SINGLE, SINGLE_PARTNER};
+use crate::{BLOCK, CHECK, HEADED, HEADED_PARTNER, HEADER, SEALED, SINGLE, SINGLE_PARTNER};
 use crc::block_check;
 use fault::{Cause, Fault};
-use frame::{Content, Control, Format, MOST_OCTETS, UserOctets, fill_record};
-
-// The octets of a burst, put at the front of the array.
-pub(crate) fn decode_burst(burst: &[u16], octets: &mut [u8; Ft3::LONGEST])
-    requires { length burst.now ≤ 79 }
-    ensures { take (length burst.now) octets.new ≡ map (λ symbol. symbol % 256) burst.now }
-{
-    for (i, symbol) in burst.iter().enumerate() {
-        octets[i] = (symbol % 256) as u8;
-    }
-}
+use frame::{Content, Control, MOST_OCTETS, UserOctets, fill_record};
 
 // The octet that has to follow the first.
 fn check_partner(octets: &[u8], partner: u8) -> Result<(), Fault>
