@@ -70,14 +70,10 @@ fn read_variable(octets: &[u8], count: usize, user: &mut UserOctets) -> Result<C
         return Err(Fault::at(Cause::WrongLength, octets.len()));
     }
     let mut opened = [0u8; MOST_OCTETS];
-    let mut done = 0;
-    let mut place = HEADER;
-    for block in octets[HEADER..].chunks(SEALED) {
-        check_block(block, place)?;
+    for (i, block) in octets[HEADER..].chunks(SEALED).enumerate() {
+        check_block(block, HEADER + i * SEALED)?;
         let size = block.len() - CHECK;
-        opened[done..done + size].copy_from_slice(&block[..size]);
-        done += size;
-        place += SEALED;
+        opened[i * BLOCK..i * BLOCK + size].copy_from_slice(&block[..size]);
     }
     fill_record(user, &opened[..count]);
     Ok(Content::Variable {
