@@ -38,14 +38,14 @@ fn read_fixed(octets: &[u8], user: &mut UserOctets) -> Result<Content, Fault>
     ensures answer { result ≡ content_read (fixed_verdict octets.now) }
     ensures filled { user.new ≡ filled_record (fixed_verdict octets.now) user.old }
 {
-    if octets.len() != 5 {
+    let [_, control, address, _, _] = *octets else {
         return Err(Fault::at(Cause::WrongLength, octets.len()));
-    }
+    };
     check_close(octets, 1, 3)?;
     fill_record(user, &[]);
     Ok(Content::Fixed {
-        control: Control { octet: octets[1] },
-        address: octets[2],
+        control: Control { octet: control },
+        address,
     })
 }
 
@@ -55,19 +55,19 @@ fn read_variable(octets: &[u8], user: &mut UserOctets) -> Result<Content, Fault>
     ensures answer { result ≡ content_read (variable_verdict octets.now) }
     ensures filled { user.new ≡ filled_record (variable_verdict octets.now) user.old }
 {
-    if octets.len() < 4 {
+    let [_, length, again, start, ..] = *octets else {
         return Err(Fault::at(Cause::WrongLength, octets.len()));
-    }
-    let length = octets[1] as usize;
+    };
     if length < 3 || length > 66 {
         return Err(Fault::at(Cause::WrongLength, 1));
     }
-    if octets[2] as usize != length {
+    if again != length {
         return Err(Fault::at(Cause::WrongLength, 2));
     }
-    if octets[3] != VARIABLE {
+    if start != VARIABLE {
         return Err(Fault::at(Cause::WrongLength, 3));
     }
+    let length = length as usize;
     if octets.len() != length + 6 {
         return Err(Fault::at(Cause::WrongLength, octets.len()));
     }
