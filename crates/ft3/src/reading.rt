@@ -12,7 +12,7 @@ use frame::{Content, Control, MOST_OCTETS, UserOctets, fill_record};
 fn check_partner(octets: &[u8], partner: u8) -> Result<(), Fault>
     ensures { result ≡ partner_checked partner octets.now }
 {
-    if octets.len() < 2 || octets[1] != partner {
+    if octets.get(1) != Some(&partner) {
         return Err(Fault::at(Cause::WrongStart, 1));
     }
     Ok(())
@@ -46,17 +46,16 @@ fn read_single(octets: &[u8], user: &mut UserOctets) -> Result<Content, Fault>
 
 // A fixed frame: nothing after its header.
 fn read_fixed(octets: &[u8], user: &mut UserOctets) -> Result<Content, Fault>
-    requires { 7 ≤ length octets.now }
     ensures answer { result ≡ content_read (fixed_verdict octets.now) }
     ensures filled { user.new ≡ filled_record (fixed_verdict octets.now) user.old }
 {
-    if octets.len() != HEADER {
+    let [_, _, _, control, address, _, _] = *octets else {
         return Err(Fault::at(Cause::WrongLength, octets.len()));
-    }
+    };
     fill_record(user, &[]);
     Ok(Content::Fixed {
-        control: Control { octet: octets[3] },
-        address: octets[4],
+        control: Control { octet: control },
+        address,
     })
 }
 
@@ -94,10 +93,9 @@ fn read_headed(octets: &[u8], user: &mut UserOctets) -> Result<Content, Fault>
         return Err(Fault::at(Cause::WrongLength, octets.len()));
     }
     check_block(&octets[2..HEADER], 2)?;
-    let length = octets[2] as usize;
-    match length {
+    match octets[2] {
         0 => read_fixed(octets, user),
-        3..=66 => read_variable(octets, length - 2, user),
+        length @ 3..=66 => read_variable(octets, length as usize - 2, user),
         _ => Err(Fault::at(Cause::WrongLength, 2)),
     }
 }
