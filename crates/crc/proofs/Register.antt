@@ -3,16 +3,16 @@ use Rattle.std.proofs.Common.{◌≡◌, ℕ, zero, suc, ◌+◌, ◌*◌, ◌/�
 use lib.Bits.{bit_xor, xor_comm, xor_zero_r, xor_lt, xor_shifted, xor_block}
 use lib.Pow.{split}
 use Rattle.std.specs.Int.Digits.{AllBelowBase}
+use Rattle.std.specs.List.{fold}
 use Rattle.crc.specs.Check.{bring_down, remainder, octet_bits, bits, check}
 use Rattle.crc.proofs.Linear.{zeros, shift, remainder_lt, remainder-++, shift_xor, shift_octet, octet}
 
 -- the register after more octets
-unfoldable pub feed : ℕ → List ℕ → ℕ
-feed r [] = r
-feed r (x ∷ xs) = feed (shift 8 (bit_xor r (x * 2 ^ 8))) xs
+abbrev pub feed : ℕ → List ℕ → ℕ
+feed r xs = fold (λ s x. shift 8 (bit_xor s (x * 2 ^ 8))) r xs
 
 feed_is : (q : ℕ) (xs : List ℕ) → q < 2 ^ 16 → AllBelowBase 256 xs → feed (shift 16 q) xs ≡ shift 16 (remainder q (bits xs))
-unfolding feed remainder bits
+unfolding remainder bits
 feed_is q [] h o = refl
 feed_is q (x ∷ xs) h o =
     ap (λ (r : ℕ). feed r xs) one

@@ -17,10 +17,9 @@ pub fn block_check(block: &[u8]) -> u16
     ensures checked { result ≡ check block.now }
     ensures divided { Remainder (number_from_digits 256 block.now * 2 ^ 16) (bit_xor result 0xFFFF) }
 {
-    let mut register: u16 = 0;
-    for octet in block {
-        register = fed(register, *octet);
-    }
+    let register = block
+        .iter()
+        .fold(0, |register, octet| fed(register, *octet));
     register ^ 0xffff
 }
 

@@ -15,41 +15,40 @@ impl fmt::Display for Layer {
 
 impl fmt::Display for Cause {
     fn fmt<W: fmt::Write>(&self, f: &mut fmt::Formatter<W>) -> fmt::Result {
-        match self {
-            Cause::EmptyBurst => f.write_str("burst empty"),
-            Cause::LongBurst => f.write_str("burst longer than any frame"),
-            Cause::BrokenSymbol => f.write_str("symbol broken"),
-            Cause::WrongStart => f.write_str("start wrong"),
-            Cause::WrongLength => f.write_str("length wrong"),
-            Cause::WrongCheck => f.write_str("check wrong"),
-            Cause::WrongEnd => f.write_str("end wrong"),
-            Cause::WrongSender => f.write_str("wrong sender"),
-            Cause::OtherAddress => f.write_str("for another address"),
-            Cause::WrongControl => f.write_str("control octet or kind of frame not permitted"),
-            Cause::ReaderUnset => f.write_str("the reader's link is unset"),
-            Cause::NothingStored => f.write_str("a repetition, and no answer is stored"),
-            Cause::NoExchange => f.write_str("no exchange is open"),
-            Cause::BadStation => f.write_str("station or address not 1 to 32"),
-            Cause::BadLength => f.write_str("length not 1 to 64"),
-            Cause::BadClass => f.write_str("class not 1 or 2"),
-            Cause::ExchangeOpen => f.write_str("an exchange is open"),
-            Cause::LinkUnset => f.write_str("the station's link is unset"),
-            Cause::NoFreeSlot => f.write_str("no free slot for the report or the arrival"),
-            Cause::ShortBuffer => f.write_str("buffer too short"),
-            Cause::QueueFull => f.write_str("queue full"),
-            Cause::QueueEmpty => f.write_str("queue empty"),
-            Cause::BadRepetitions => f.write_str("repetitions over 7"),
-            Cause::BadSlots => f.write_str("slots not 1 to 256"),
-        }
+        f.write_str(match self {
+            Cause::EmptyBurst => "burst empty",
+            Cause::LongBurst => "burst longer than any frame",
+            Cause::BrokenSymbol => "symbol broken",
+            Cause::WrongStart => "start wrong",
+            Cause::WrongLength => "length wrong",
+            Cause::WrongCheck => "check wrong",
+            Cause::WrongEnd => "end wrong",
+            Cause::WrongSender => "wrong sender",
+            Cause::OtherAddress => "for another address",
+            Cause::WrongControl => "control octet or kind of frame not permitted",
+            Cause::ReaderUnset => "the reader's link is unset",
+            Cause::NothingStored => "a repetition, and no answer is stored",
+            Cause::NoExchange => "no exchange is open",
+            Cause::BadStation => "station or address not 1 to 32",
+            Cause::BadLength => "length not 1 to 64",
+            Cause::BadClass => "class not 1 or 2",
+            Cause::ExchangeOpen => "an exchange is open",
+            Cause::LinkUnset => "the station's link is unset",
+            Cause::NoFreeSlot => "no free slot for the report or the arrival",
+            Cause::ShortBuffer => "buffer too short",
+            Cause::QueueFull => "queue full",
+            Cause::QueueEmpty => "queue empty",
+            Cause::BadRepetitions => "repetitions over 7",
+            Cause::BadSlots => "slots not 1 to 256",
+        })
     }
 }
 
 impl fmt::Display for Fault {
     fn fmt<W: fmt::Write>(&self, f: &mut fmt::Formatter<W>) -> fmt::Result {
-        let number = self.number();
-        let layer = self.layer();
-        let place = self.place;
-        let cause = self.cause;
+        let Fault { cause, place } = *self;
+        let number = cause.number();
+        let layer = cause.layer();
         write!(f, "refused {number} {layer} {place}: {cause}")
     }
 }

@@ -1,24 +1,26 @@
--- Bursts as loops go through them: their checks, and the octets that are taken from their symbols.
-use Rattle.std.proofs.Common.{◌≡◌, ℕ, ◌+◌, ◌<◌, ◌≤◌, Bool, true, false, List, [], ◌∷◌, ◌++◌, map, length, get_or, take, drop, set, Err, sym, refl, ap, ◌∙◌, ap₂, arith}
+-- Bursts: their checks, and the octets that are taken from their symbols.
+use Rattle.std.proofs.Common.{◌≡◌, ℕ, ◌+◌, ◌<◌, ◌≤◌, Bool, true, false, cond, not, Option, None, Some, Result, Ok, List, [], ◌∷◌, ◌++◌, map, length, get_or, take, set, Err, sym, refl, ap, ◌∙◌, ap₂, arith}
 use Rattle.fault.specs.Causes.{fault}
 use Rattle.fault.specs.declared.Cause.TheVariants.{BrokenSymbol}
-use Rattle.frame.specs.Verdicts.{line_checked, symbols_checked}
-use Rattle.std.proofs.lemmas.List.{append_assoc, drop_more, map_more, take_all, take_more, take_more_set}
+use Rattle.fault.specs.declared.Fault.{Fault}
+use Rattle.frame.specs.Verdicts.{line_checked, must, symbols_checked}
+use Rattle.std.specs.List.{position_from}
+use Rattle.std.proofs.lemmas.List.{append_assoc, map_more, take_all, take_more, take_more_set}
 use Rattle.std.proofs.lemmas.Bool.Decides.{nat_tests}
 
-pub symbols_more :
-    (sound : ℕ → Bool) (b : List ℕ) (i : ℕ) →
-    i < length b →
-    sound (get_or b i 0) ≡ true →
-    symbols_checked sound i (drop i b) ≡ symbols_checked sound (i + 1) (drop (i + 1) b)
-symbols_more sound b i h t = ap (symbols_checked sound i) (drop_more b i 0 h) ∙ rw t refl
+-- the fault of the first broken symbol, if there is one
+abbrev pub broken_at : Option ℕ → Result (Unit {0}) Fault
+broken_at None = Ok tt
+broken_at (Some i) = Err (fault BrokenSymbol i)
 
-pub symbols_broken :
-    (sound : ℕ → Bool) (b : List ℕ) (i : ℕ) →
-    i < length b →
-    sound (get_or b i 0) ≡ false →
-    symbols_checked sound i (drop i b) ≡ Err (fault BrokenSymbol i)
-symbols_broken sound b i h t = ap (symbols_checked sound i) (drop_more b i 0 h) ∙ rw t refl
+pub symbols_position :
+    (sound : ℕ → Bool) (i : ℕ) (b : List ℕ) → symbols_checked sound i b ≡ broken_at (position_from (λ s. not (sound s)) i b)
+symbols_position sound i [] = refl
+symbols_position sound i (s ∷ b) =
+    elim (sound s) as (λ t. must t (fault BrokenSymbol i) (symbols_checked sound (i + 1) b) ≡ broken_at (cond (not t) (Some i) (position_from (λ s. not (sound s)) (i + 1) b))) [
+      | true ↦ symbols_position sound (i + 1) b
+      | false ↦ refl
+    ]
 
 pub line_is :
     (sound : ℕ → Bool) (longest : ℕ) (b : List ℕ) →

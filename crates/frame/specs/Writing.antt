@@ -1,5 +1,5 @@
 -- What a writer answers, and what it leaves in the buffer.
-use Rattle.std.specs.Prelude.{ℕ, Bool, true, cond, ◌&&◌, List, ◌++◌, length, drop, Ok, Err, Result, nat_le, nat_lt}
+use Rattle.std.specs.Prelude.{ℕ, ◌+◌, Bool, true, cond, ◌&&◌, List, ◌++◌, map, length, take, drop, Ok, Err, Result, nat_le, nat_lt}
 use Rattle.fault.specs.Causes.{fault}
 use Rattle.fault.specs.declared.Cause.TheVariants.{BadLength, ShortBuffer}
 use Rattle.fault.specs.declared.Fault.{Fault}
@@ -22,3 +22,7 @@ write_answer longest frame c buffer =
 abbrev pub buffer_written : ℕ → List ℕ → Content → List ℕ → List ℕ
 buffer_written longest frame c buffer =
     cond (nat_lt (length buffer) longest) buffer (cond (proper c) (frame ++ drop (length frame) buffer) buffer)
+
+-- a buffer after the symbols of some octets were put into it from a place on
+abbrev pub encoded_at : (ℕ → ℕ) → ℕ → List ℕ → List ℕ → List ℕ
+encoded_at symbol_for place os buffer = take place buffer ++ (map symbol_for os ++ drop (place + length os) buffer)

@@ -3,12 +3,14 @@
 
 mod control;
 
-ghost use Rattle.std.specs.Prelude.{◌≡◌, ℕ, Bool, List, Result};
+ghost use Rattle.std.specs.Prelude.{◌≡◌, ℕ, Bool, List, Result, MatchResult, ◌+◌, ◌≤◌, length, map, not, nat_lt, take};
+ghost use Rattle.fault.specs.Causes.{fault};
+ghost use Rattle.fault.specs.declared.Cause.TheVariants.{ShortBuffer};
 ghost use Rattle.fault.specs.declared.Fault.{Fault};
 ghost use Rattle.frame.specs.Contents.{Meaning, content_read, filled_record, meaning, padded};
 ghost use Rattle.frame.specs.Laws.{GuardLaw, SizeLaw, VerdictLaw};
-ghost use Rattle.frame.specs.Verdicts.{line_checked};
-ghost use Rattle.frame.specs.Writing.{buffer_written, write_answer};
+ghost use Rattle.frame.specs.Verdicts.{line_checked, must};
+ghost use Rattle.frame.specs.Writing.{buffer_written, encoded_at, write_answer};
 
 pub use control::Control;
 use fault::{Cause, Fault};
@@ -34,37 +36,41 @@ pub enum Content {
     },
 }
 
-// What a format states of itself: the bits of a symbol, the symbols of its longest frame, and how many inverted
-// bits it always sees.
-#[derive(Clone, Copy, PartialEq, Eq, Debug)]
-pub struct Limits {
-    pub width: u32,
-    pub longest: usize,
-    pub guard: u32,
-}
-
-// The symbols of a format: which numbers that a receiver hands over are whole.
+// The symbols of a format: which numbers that a receiver hands over are whole, and which octet each stands for.
 pub trait Alphabet {
     ghost sound: { ℕ → Bool };
 
+    ghost octet_in: { ℕ → ℕ };
+
+    ghost symbol_for: { ℕ → ℕ };
+
     fn is_sound(symbol: u16) -> bool
         ensures { result ≡ sound symbol };
+
+    fn decode(symbol: u16) -> u8
+        ensures { result ≡ octet_in symbol };
+
+    fn encode(octet: u8) -> u16
+        ensures { result ≡ symbol_for octet };
 }
 
 // A frame format. Its ghosts are its meaning, its laws what the two ends rest on; write and read stand alone, so
 // that no end holds a value of a format.
 pub trait Format {
+    // the bits of a symbol
     const WIDTH: u32;
 
+    ghost WIDTH: { ℕ };
+
+    // the symbols of the longest frame
     const LONGEST: usize;
 
+    ghost LONGEST: { ℕ };
+
+    // how many inverted bits a receiver always sees
     const GUARD: u32;
 
-    ghost width: { ℕ };
-
-    ghost longest: { ℕ };
-
-    ghost guard: { ℕ };
+    ghost GUARD: { ℕ };
 
     // the one list of symbols of a content
     ghost frame: { Meaning → List ℕ };
@@ -72,56 +78,78 @@ pub trait Format {
     // the one verdict on a burst
     ghost verdict: { List ℕ → Result Meaning Fault };
 
-    // The constants, under the names that promises use.
-    fn limits() -> Limits
-        ensures width { result.width ≡ width }
-        ensures longest { result.longest ≡ longest }
-        ensures guard { result.guard ≡ guard };
-
     // The frame of a content at the front of the buffer, and the count of its symbols.
     fn write(content: Content, user: &UserOctets, buffer: &mut [u16]) -> Result<usize, Fault>
-        ensures answer { result ≡ write_answer longest (frame (meaning content user.now)) content buffer.old }
-        ensures written { buffer.new ≡ buffer_written longest (frame (meaning content user.now)) content buffer.old };
+        ensures answer { result ≡ write_answer LONGEST (frame (meaning content user.now)) content buffer.old }
+        ensures written { buffer.new ≡ buffer_written LONGEST (frame (meaning content user.now)) content buffer.old };
 
     // The content of a burst, with its user octets in the record; or the fault, and the record untouched.
     fn read(burst: &[u16], user: &mut UserOctets) -> Result<Content, Fault>
         ensures answer { result ≡ content_read (verdict burst.now) }
         ensures filled { user.new ≡ filled_record (verdict burst.now) user.old };
 
-    ghost size: { SizeLaw width longest frame };
+    ghost size: { SizeLaw WIDTH LONGEST frame };
 
     ghost exact: { VerdictLaw frame verdict };
 
-    ghost guarded: { GuardLaw width guard frame };
+    ghost guarded: { GuardLaw WIDTH GUARD frame };
+}
+
+// A buffer has room for the longest frame, whatever is written.
+pub fn check_buffer(buffer: &[u16], longest: usize) -> Result<(), Fault>
+    ensures { result ≡ must (not (nat_lt (length buffer.now) longest)) (fault ShortBuffer 0) (Ok tt) }
+{
+    if buffer.len() < longest {
+        return Err(Fault::of(Cause::ShortBuffer));
+    }
+    Ok(())
 }
 
 // The checks of every burst before its frame is looked at: empty, over the longest, and the first broken symbol.
 pub fn check_burst<A: Alphabet>(burst: &[u16], longest: usize) -> Result<(), Fault>
     ensures { result ≡ line_checked A.sound longest burst.now }
 {
-    if burst.len() < 1 {
+    if burst.is_empty() {
         return Err(Fault::of(Cause::EmptyBurst));
     }
     if burst.len() > longest {
         return Err(Fault::of(Cause::LongBurst));
     }
-    for (i, symbol) in burst.iter().enumerate() {
-        if !A::is_sound(*symbol) {
-            return Err(Fault::at(Cause::BrokenSymbol, i));
-        }
+    match burst.iter().position(|symbol| !A::is_sound(*symbol)) {
+        Some(place) => Err(Fault::at(Cause::BrokenSymbol, place)),
+        None => Ok(()),
     }
-    Ok(())
+}
+
+// The octets of a burst whose symbols are all sound, at the front of an array as long as the longest frame.
+pub fn open_burst<A: Alphabet, const LONGEST: usize>(burst: &[u16]) -> Result<[u8; LONGEST], Fault>
+    ensures { MatchResult result (λ octets. (line_checked A.sound LONGEST burst.now ≡ Ok tt) × (take (length burst.now) octets ≡ map A.octet_in burst.now)) (λ f. line_checked A.sound LONGEST burst.now ≡ Err f) }
+{
+    check_burst::<A>(burst, LONGEST)?;
+    let mut octets = [0; LONGEST];
+    for (i, symbol) in burst.iter().enumerate() {
+        octets[i] = A::decode(*symbol);
+    }
+    Ok(octets)
+}
+
+// The symbols of some octets, put into the buffer from a place on; answers the place after them.
+pub fn encode_at<A: Alphabet>(buffer: &mut [u16], place: usize, octets: &[u8]) -> usize
+    requires { place + length octets.now ≤ length buffer.old }
+    ensures end { result ≡ place + length octets.now }
+    ensures encoded { buffer.new ≡ encoded_at A.symbol_for place octets.now buffer.old }
+{
+    for (i, octet) in octets.iter().enumerate() {
+        buffer[place + i] = A::encode(*octet);
+    }
+    place + octets.len()
 }
 
 // Octets at the front of the record and zeros after them; of more than 64 octets the first 64.
 pub fn fill_record(user: &mut UserOctets, octets: &[u8])
     ensures { user.new ≡ padded octets.now }
 {
-    let count = if octets.len() < MOST_OCTETS {
-        octets.len()
-    } else {
-        MOST_OCTETS
-    };
+    let count = MOST_OCTETS.min(octets.len());
     *user = [0; 64];
     user[..count].copy_from_slice(&octets[..count]);
 }

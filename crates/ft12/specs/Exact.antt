@@ -183,7 +183,7 @@ exact b m e =
     let os = map octet_of b in
     let p = after_ok (line_checked is_sound 72 b) (octets_verdict os) m e in
     let inner = exact_octets os m (each_decoded b) p.1 in
-    (inner.0, sym (coded_again b 0 (line_ok is_sound 72 b p.0)) ∙ ap (map symbol_of) inner.1)
+    (inner.0, sym (coded_again b 0 (line_ok is_sound 72 b p.0).2) ∙ ap (map symbol_of) inner.1)
 
 -- a burst over the longest frame
 pub too_long : (b : List ℕ) → length b ≡ 73 → verdict_of b ≡ Err (fault LongBurst 0)

@@ -1,5 +1,5 @@
 -- The frames of FT1.2: their octets, and the symbols of those.
-use Rattle.std.specs.Prelude.{ℕ, ◌+◌, ◌%◌, List, [], ◌∷◌, ◌++◌, map, length, take, drop, sum}
+use Rattle.std.specs.Prelude.{ℕ, ◌+◌, ◌%◌, List, [], ◌∷◌, ◌++◌, map, length, sum}
 use Rattle.frame.specs.Contents.{Meaning, single, fixed, variable}
 use Rattle.ft12.specs.Symbols.{symbol_of}
 
@@ -17,7 +17,3 @@ octets_of (variable c a us) =
 -- the frame of a content
 abbrev pub frame_of : Meaning → List ℕ
 frame_of m = map symbol_of (octets_of m)
-
--- a buffer after the symbols of some octets were put into it from a place on
-abbrev pub encoded_at : ℕ → List ℕ → List ℕ → List ℕ
-encoded_at place os buffer = take place buffer ++ (map symbol_of os ++ drop (place + length os) buffer)

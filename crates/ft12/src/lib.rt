@@ -16,9 +16,9 @@ ghost use Rattle.ft12.specs.Exact;
 ghost use Rattle.ft12.specs.Guard;
 
 use fault::{Cause, Fault};
-use frame::{Content, Format, Limits, MOST_OCTETS, UserOctets, check_burst};
-use reading::{decode_burst, read_octets};
-use writing::{encode_at, write_variable};
+use frame::{Content, Format, UserOctets, check_buffer, encode_at, open_burst};
+use reading::read_octets;
+use writing::write_variable;
 
 // The first octet of each kind of frame.
 const SINGLE: u8 = 0xE5;
@@ -37,11 +37,9 @@ pub struct Ft12;
 fn check_octet(octets: &[u8]) -> u8
     ensures { result ≡ check_of octets.now }
 {
-    let mut sum = 0u8;
-    for octet in octets {
-        sum = sum.wrapping_add(*octet);
-    }
-    sum
+    octets
+        .iter()
+        .fold(0, |sum: u8, octet| sum.wrapping_add(*octet))
 }
 
 impl Format for Ft12 {
@@ -51,11 +49,11 @@ impl Format for Ft12 {
 
     const GUARD: u32 = 3;
 
-    ghost width = { 11 };
+    ghost WIDTH = { 11 };
 
-    ghost longest = { 72 };
+    ghost LONGEST = { 72 };
 
-    ghost guard = { 3 };
+    ghost GUARD = { 3 };
 
     ghost frame = { frame_of };
 
@@ -67,42 +65,25 @@ impl Format for Ft12 {
 
     ghost guarded = { Guard.guarded };
 
-    fn limits() -> Limits {
-        Limits {
-            width: Self::WIDTH,
-            longest: Self::LONGEST,
-            guard: Self::GUARD,
-        }
-    }
-
     fn write(content: Content, user: &UserOctets, buffer: &mut [u16]) -> Result<usize, Fault> {
-        if buffer.len() < Self::LONGEST {
-            return Err(Fault::of(Cause::ShortBuffer));
-        }
+        check_buffer(buffer, Self::LONGEST)?;
         match content {
-            Content::Single => Ok(encode_at(buffer, 0, &[SINGLE])),
+            Content::Single => Ok(encode_at::<Ft12>(buffer, 0, &[SINGLE])),
             Content::Fixed { control, address } => {
                 let check = check_octet(&[control.octet, address]);
-                Ok(encode_at(buffer, 0, &[FIXED, control.octet, address, check, END]))
+                Ok(encode_at::<Ft12>(buffer, 0, &[FIXED, control.octet, address, check, END]))
             }
             Content::Variable {
                 control,
                 address,
-                count,
-            } => {
-                let count = count as usize;
-                if count < 1 || count > MOST_OCTETS {
-                    return Err(Fault::of(Cause::BadLength));
-                }
-                Ok(write_variable(control, address, &user[..count], buffer))
-            }
+                count: count @ 1..=64,
+            } => Ok(write_variable(control, address, &user[..count as usize], buffer)),
+            Content::Variable { .. } => Err(Fault::of(Cause::BadLength)),
         }
     }
 
     fn read(burst: &[u16], user: &mut UserOctets) -> Result<Content, Fault> {
-        check_burst::<Ft12>(burst, Self::LONGEST)?;
-        let mut octets = [0u8; Self::LONGEST];
-        decode_burst(burst, &mut octets);
+        let octets = open_burst::<Ft12, { Self::LONGEST }>(burst)?;
         read_octets(&octets[..burst.len()], user)
     }
 }

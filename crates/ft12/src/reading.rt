@@ -1,23 +1,11 @@
 // Reading: the octets of a burst whose symbols are sound, checked as a frame.
-ghost use Rattle.std.specs.Prelude.{◌≡◌, ◌+◌, ◌≤◌, map, length, take};
+ghost use Rattle.std.specs.Prelude.{◌≡◌, ◌+◌, ◌≤◌, length};
 ghost use Rattle.frame.specs.Contents.{content_read, filled_record};
-ghost use Rattle.ft12.specs.Symbols.{octet_of};
 ghost use Rattle.ft12.specs.Verdicts.{close_checked, fixed_verdict, octets_verdict, single_verdict, variable_verdict};
 
-use crate::symbol::decode;
-use crate::{END, FIXED, Ft12, SINGLE, VARIABLE, check_octet};
+use crate::{END, FIXED, SINGLE, VARIABLE, check_octet};
 use fault::{Cause, Fault};
-use frame::{Content, Control, Format, UserOctets, fill_record};
-
-// The octets of a burst, put at the front of the array.
-pub(crate) fn decode_burst(burst: &[u16], octets: &mut [u8; Ft12::LONGEST])
-    requires { length burst.now ≤ 72 }
-    ensures { take (length burst.now) octets.new ≡ map octet_of burst.now }
-{
-    for (i, symbol) in burst.iter().enumerate() {
-        octets[i] = decode(*symbol);
-    }
-}
+use frame::{Content, Control, UserOctets, fill_record};
 
 // The check octet at a place, which covers the octets before it from the first one on; and the end after it.
 fn check_close(octets: &[u8], first: usize, place: usize) -> Result<(), Fault>
@@ -50,14 +38,14 @@ fn read_fixed(octets: &[u8], user: &mut UserOctets) -> Result<Content, Fault>
     ensures answer { result ≡ content_read (fixed_verdict octets.now) }
     ensures filled { user.new ≡ filled_record (fixed_verdict octets.now) user.old }
 {
-    if octets.len() != 5 {
+    let [_, control, address, _, _] = *octets else {
         return Err(Fault::at(Cause::WrongLength, octets.len()));
-    }
+    };
     check_close(octets, 1, 3)?;
     fill_record(user, &[]);
     Ok(Content::Fixed {
-        control: Control { octet: octets[1] },
-        address: octets[2],
+        control: Control { octet: control },
+        address,
     })
 }
 
@@ -67,19 +55,19 @@ fn read_variable(octets: &[u8], user: &mut UserOctets) -> Result<Content, Fault>
     ensures answer { result ≡ content_read (variable_verdict octets.now) }
     ensures filled { user.new ≡ filled_record (variable_verdict octets.now) user.old }
 {
-    if octets.len() < 4 {
+    let [_, length, again, start, ..] = *octets else {
         return Err(Fault::at(Cause::WrongLength, octets.len()));
-    }
-    let length = octets[1] as usize;
+    };
     if length < 3 || length > 66 {
         return Err(Fault::at(Cause::WrongLength, 1));
     }
-    if octets[2] as usize != length {
+    if again != length {
         return Err(Fault::at(Cause::WrongLength, 2));
     }
-    if octets[3] != VARIABLE {
+    if start != VARIABLE {
         return Err(Fault::at(Cause::WrongLength, 3));
     }
+    let length = length as usize;
     if octets.len() != length + 6 {
         return Err(Fault::at(Cause::WrongLength, octets.len()));
     }

@@ -8,23 +8,12 @@ use frame::{Alphabet, Format};
 // The stop bit. It is 1 in every symbol, and the start bit, bit 0, is 0.
 const STOP: u16 = 1 << 10;
 
-// The symbol of an octet.
-pub(crate) fn encode(octet: u8) -> u16
-    ensures { result ≡ symbol_of octet }
-{
-    let parity = (octet.count_ones() % 2) as u16;
-    STOP | parity << 9 | (octet as u16) << 1
-}
-
-// The octet in a symbol.
-pub(crate) fn decode(symbol: u16) -> u8
-    ensures { result ≡ octet_of symbol }
-{
-    (symbol >> 1 & 0xFF) as u8
-}
-
 impl Alphabet for Ft12 {
     ghost sound = { is_sound };
+
+    ghost octet_in = { octet_of };
+
+    ghost symbol_for = { symbol_of };
 
     // No bit above the width; start bit 0, even parity, stop bit 1.
     fn is_sound(symbol: u16) -> bool {
@@ -32,5 +21,14 @@ impl Alphabet for Ft12 {
         let ones = (symbol >> 1 & 0x1FF).count_ones();
         let stop = symbol >> 10 & 1;
         symbol >> Ft12::WIDTH == 0 && start == 0 && ones % 2 == 0 && stop == 1
+    }
+
+    fn decode(symbol: u16) -> u8 {
+        (symbol >> 1 & 0xFF) as u8
+    }
+
+    fn encode(octet: u8) -> u16 {
+        let parity = (octet.count_ones() % 2) as u16;
+        STOP | parity << 9 | (octet as u16) << 1
     }
 }

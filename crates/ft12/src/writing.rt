@@ -1,23 +1,12 @@
 // Writing: octets become symbols at their places in a buffer.
 ghost use Rattle.std.specs.Prelude.{◌≡◌, ◌+◌, ◌≤◌, length};
 ghost use Rattle.frame.specs.Contents.{variable};
-ghost use Rattle.ft12.specs.Frames.{encoded_at, octets_of};
+ghost use Rattle.frame.specs.Writing.{encoded_at};
+ghost use Rattle.ft12.specs.Frames.{octets_of};
+ghost use Rattle.ft12.specs.Symbols.{symbol_of};
 
-use crate::symbol::encode;
-use crate::{END, VARIABLE, check_octet};
-use frame::Control;
-
-// The symbols of some octets, put into the buffer from a place on; answers the place after them.
-pub(crate) fn encode_at(buffer: &mut [u16], place: usize, octets: &[u8]) -> usize
-    requires { place + length octets.now ≤ length buffer.old }
-    ensures end { result ≡ place + length octets.now }
-    ensures encoded { buffer.new ≡ encoded_at place octets.now buffer.old }
-{
-    for (i, octet) in octets.iter().enumerate() {
-        buffer[place + i] = encode(*octet);
-    }
-    place + octets.len()
-}
+use crate::{END, Ft12, VARIABLE, check_octet};
+use frame::{Control, encode_at};
 
 // A variable frame at the front of the buffer; answers the count of its symbols.
 pub(crate) fn write_variable(
@@ -28,15 +17,15 @@ pub(crate) fn write_variable(
 ) -> usize
     requires { (length user.now ≤ 64) × (72 ≤ length buffer.old) }
     ensures count { result ≡ length user.now + 8 }
-    ensures encoded { buffer.new ≡ encoded_at 0 (octets_of (variable control.octet address user.now)) buffer.old }
+    ensures encoded { buffer.new ≡ encoded_at symbol_of 0 (octets_of (variable control.octet address user.now)) buffer.old }
 {
     let length = (user.len() + 2) as u8;
     let check = check_octet(&[control.octet, address]).wrapping_add(check_octet(user));
-    let head = encode_at(
+    let head = encode_at::<Ft12>(
         buffer,
         0,
         &[VARIABLE, length, length, VARIABLE, control.octet, address],
     );
-    let covered = encode_at(buffer, head, user);
-    encode_at(buffer, covered, &[check, END])
+    let covered = encode_at::<Ft12>(buffer, head, user);
+    encode_at::<Ft12>(buffer, covered, &[check, END])
 }

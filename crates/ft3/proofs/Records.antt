@@ -1,5 +1,5 @@
 -- The reader's loop: what is opened, and what the blocks that are left will add.
-use Rattle.std.proofs.Common.{◌≡◌, ℕ, suc, ◌+◌, ◌-◌, ◌*◌, ◌/◌, ◌%◌, ◌<◌, ◌≤◌, min, true, eqb, List, ◌++◌, length, get_or, take, drop, Ok, Err, Result, sym, refl, ap, ◌∙◌, ap₂, arith}
+use Rattle.std.proofs.Common.{◌≡◌, ℕ, suc, ◌+◌, ◌-◌, ◌*◌, ◌/◌, ◌%◌, ◌<◌, ◌≤◌, min, true, eqb, List, ◌++◌, length, get_or, take, drop, Ok, Err, Result, sym, refl, ap, ◌∙◌, ap₂, subst, arith}
 use borrow.Rule.Slice.PartMut.{put_mid}
 use Rattle.fault.specs.declared.Fault.{Fault}
 use Rattle.frame.specs.Contents.{content_read, filled_record, padded, variable}
@@ -56,15 +56,23 @@ pub record Read (bs : List ℕ) (n : ℕ) (rec rest : List ℕ) (done place : �
   pub uncut : Uncut rest
   pub long : length rec ≡ 64
 
-pub read_none : (bs rec : List ℕ) (n : ℕ) → length bs ≡ n + 2 * block_count n → length rec ≡ 64 → Read bs n rec bs 0 7
-read_none bs rec n h long =
-    let same : sealed_count bs ≡ block_count n = omega arith in
+pub read_none :
+    (bs rec rest : List ℕ) (n i : ℕ) →
+    rest ≡ bs →
+    i ≡ 0 →
+    length bs ≡ n + 2 * block_count n →
+    length rec ≡ 64 →
+    Read bs n rec rest (min n (16 * i)) (7 + 18 * i)
+read_none bs rec rest n i all start h long =
+    let same : sealed_count rest ≡ block_count n = omega (arith, ap length all) in
+    let first : min n (16 * i) ≡ 0 = omega arith in
+    let place : 7 + 18 * i ≡ 7 = omega arith in
     record {
-      checked = ap (λ k. blocks_checked k 7 bs) same;
-      carried = ap (λ k. opened_blocks k bs) same;
-      counts = omega (arith, same);
+      checked = ap₂ (λ k p. blocks_checked k p rest) same place ∙ ap (blocks_checked (block_count n) 7) all;
+      carried = ap₂ (λ d k. take d rec ++ opened_blocks k rest) first same ∙ ap (opened_blocks (block_count n)) all;
+      counts = omega (arith, same, ap length all);
       places = omega (arith, same);
-      uncut = omega arith;
+      uncut = omega (arith, ap length all);
       long = long;
     }
 
@@ -119,6 +127,33 @@ read_more bs rec rest block left part n done place size r few eighteen e l h goo
       uncut = omega (arith, lengths, r.uncut);
       long = length_mid done (next - done) rec part (omega (arith, fits.2, r.long)) (omega (arith, size_is)) ∙ r.long;
     }
+
+-- the loop counts blocks, of which i were read and the next is the one of number k
+pub read_next :
+    (bs rec rest block left part : List ℕ) (n i j k size : ℕ) →
+    Read bs n rec rest (min n (16 * i)) (7 + 18 * i) →
+    n ≤ 64 →
+    size ≡ 18 →
+    rest ≡ block ++ left →
+    length block ≡ min size (length rest) →
+    0 < length rest →
+    k ≡ i →
+    j ≡ i + 1 →
+    block_checked (7 + k * 18) block ≡ Ok tt →
+    part ≡ opened block →
+    Read bs n (put_mid (k * 16) (k * 16 + (length block - 2) - k * 16) rec part) left (min n (16 * j)) (7 + 18 * j)
+read_next bs rec rest block left part n i j k size r few eighteen e l h at next good is =
+    let d = min n (16 * i) in
+    let size_is = length block - 2 in
+    let here : 7 + k * 18 ≡ 7 + 18 * i = omega arith in
+    let lengths : length rest ≡ length block + length left = ap length e ∙ length-append block left in
+    let step = read_more bs rec rest block left part n d (7 + 18 * i) size r few eighteen e l h (sym (ap (λ p. block_checked p block) here) ∙ good) is in
+    let first : d ≡ k * 16 = omega (arith, r.places) in
+    let done : d + size_is ≡ min n (16 * j) = omega (arith, first, lengths, step.counts, step.places) in
+    let place : 7 + 18 * i + 18 ≡ 7 + 18 * j = omega arith in
+    subst (λ p. Read bs n (put_mid (k * 16) (k * 16 + size_is - k * 16) rec part) left (min n (16 * j)) p) place
+    (subst (λ q. Read bs n (put_mid (k * 16) (k * 16 + size_is - k * 16) rec part) left q (7 + 18 * i + 18)) done
+    (subst (λ q. Read bs n (put_mid q (q + size_is - q) rec part) left (d + size_is) (7 + 18 * i + 18)) first step))
 
 -- at a bad block
 pub read_bad :

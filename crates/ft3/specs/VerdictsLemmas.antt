@@ -24,7 +24,7 @@ pub line_passes : (b : List ℕ) → 1 ≤ length b → length b ≤ 79 → AllB
 line_passes b some few h = line_is is_sound 79 b some few ∙ symbols_pass b 0 h
 
 pub line_under : (b : List ℕ) → line_checked is_sound 79 b ≡ Ok tt → AllBelowBase 256 b
-line_under b e = symbols_under b 0 (line_ok is_sound 79 b e)
+line_under b e = symbols_under b 0 (line_ok is_sound 79 b e).2
 
 -- ---- what the code decodes of a burst is the burst
 

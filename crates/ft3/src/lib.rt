@@ -4,6 +4,7 @@
 mod reading;
 mod writing;
 
+ghost use Rattle.std.specs.Prelude.{◌%◌};
 ghost use Rattle.ft3.specs.Cases.{Cases};
 ghost use Rattle.ft3.specs.Frames.{frame_of};
 ghost use Rattle.ft3.specs.Verdicts.{is_sound, verdict_of};
@@ -12,9 +13,9 @@ ghost use Rattle.ft3.specs.Exact;
 ghost use Rattle.ft3.specs.Guard;
 
 use fault::{Cause, Fault};
-use frame::{Alphabet, Content, Format, Limits, MOST_OCTETS, UserOctets, check_burst};
-use reading::{decode_burst, read_octets};
-use writing::{write_blocks, write_header};
+use frame::{Alphabet, Content, Format, UserOctets, check_buffer, encode_at, open_burst};
+use reading::read_octets;
+use writing::{write_header, write_variable};
 
 // The two octets of a single frame.
 const SINGLE: u8 = 0x12;
@@ -42,9 +43,21 @@ pub struct Ft3;
 impl Alphabet for Ft3 {
     ghost sound = { is_sound };
 
+    ghost octet_in = { λ symbol. symbol % 256 };
+
+    ghost symbol_for = { λ octet. octet };
+
     // No bit above the width.
     fn is_sound(symbol: u16) -> bool {
         symbol >> Ft3::WIDTH == 0
+    }
+
+    fn decode(symbol: u16) -> u8 {
+        (symbol % 256) as u8
+    }
+
+    fn encode(octet: u8) -> u16 {
+        u16::from(octet)
     }
 }
 
@@ -55,11 +68,11 @@ impl Format for Ft3 {
 
     const GUARD: u32 = 3;
 
-    ghost width = { 8 };
+    ghost WIDTH = { 8 };
 
-    ghost longest = { 79 };
+    ghost LONGEST = { 79 };
 
-    ghost guard = { 3 };
+    ghost GUARD = { 3 };
 
     ghost frame = { frame_of };
 
@@ -71,44 +84,22 @@ impl Format for Ft3 {
 
     ghost guarded = { Guard.guarded };
 
-    fn limits() -> Limits {
-        Limits {
-            width: Self::WIDTH,
-            longest: Self::LONGEST,
-            guard: Self::GUARD,
-        }
-    }
-
     fn write(content: Content, user: &UserOctets, buffer: &mut [u16]) -> Result<usize, Fault> {
-        if buffer.len() < Self::LONGEST {
-            return Err(Fault::of(Cause::ShortBuffer));
-        }
+        check_buffer(buffer, Self::LONGEST)?;
         match content {
-            Content::Single => {
-                buffer[0] = u16::from(SINGLE);
-                buffer[1] = u16::from(SINGLE_PARTNER);
-                Ok(2)
-            }
-            Content::Fixed { control, address } => { Ok(write_header(0, control, address, buffer)) }
+            Content::Single => Ok(encode_at::<Ft3>(buffer, 0, &[SINGLE, SINGLE_PARTNER])),
+            Content::Fixed { control, address } => Ok(write_header(0, control, address, buffer)),
             Content::Variable {
                 control,
                 address,
-                count,
-            } => {
-                let octets = count as usize;
-                if octets < 1 || octets > MOST_OCTETS {
-                    return Err(Fault::of(Cause::BadLength));
-                }
-                write_header(count + 2, control, address, buffer);
-                Ok(write_blocks(&user[..octets], buffer))
-            }
+                count: count @ 1..=64,
+            } => Ok(write_variable(control, address, &user[..count as usize], buffer)),
+            Content::Variable { .. } => Err(Fault::of(Cause::BadLength)),
         }
     }
 
     fn read(burst: &[u16], user: &mut UserOctets) -> Result<Content, Fault> {
-        check_burst::<Ft3>(burst, Self::LONGEST)?;
-        let mut octets = [0u8; Self::LONGEST];
-        decode_burst(burst, &mut octets);
+        let octets = open_burst::<Ft3, { Self::LONGEST }>(burst)?;
         read_octets(&octets[..burst.len()], user)
     }
 }

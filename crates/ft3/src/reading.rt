@@ -1,28 +1,18 @@
 // Reading: the octets of a burst whose symbols are sound, checked as a frame.
-ghost use Rattle.std.specs.Prelude.{◌≡◌, ◌%◌, ◌≤◌, map, length, take};
+ghost use Rattle.std.specs.Prelude.{◌≡◌, ◌≤◌, length};
 ghost use Rattle.frame.specs.Contents.{content_read, filled_record};
 ghost use Rattle.ft3.specs.Verdicts.{block_checked, fixed_verdict, headed_verdict, octets_verdict, partner_checked, single_verdict, variable_verdict};
 
-use crate::{BLOCK, CHECK, Ft3, HEADED, HEADED_PARTNER, HEADER, SEALED, SINGLE, SINGLE_PARTNER};
+use crate::{BLOCK, CHECK, HEADED, HEADED_PARTNER, HEADER, SEALED, SINGLE, SINGLE_PARTNER};
 use crc::block_check;
 use fault::{Cause, Fault};
-use frame::{Content, Control, Format, MOST_OCTETS, UserOctets, fill_record};
-
-// The octets of a burst, put at the front of the array.
-pub(crate) fn decode_burst(burst: &[u16], octets: &mut [u8; Ft3::LONGEST])
-    requires { length burst.now ≤ 79 }
-    ensures { take (length burst.now) octets.new ≡ map (λ symbol. symbol % 256) burst.now }
-{
-    for (i, symbol) in burst.iter().enumerate() {
-        octets[i] = (symbol % 256) as u8;
-    }
-}
+use frame::{Content, Control, MOST_OCTETS, UserOctets, fill_record};
 
 // The octet that has to follow the first.
 fn check_partner(octets: &[u8], partner: u8) -> Result<(), Fault>
     ensures { result ≡ partner_checked partner octets.now }
 {
-    if octets.len() < 2 || octets[1] != partner {
+    if octets.get(1) != Some(&partner) {
         return Err(Fault::at(Cause::WrongStart, 1));
     }
     Ok(())
@@ -56,17 +46,16 @@ fn read_single(octets: &[u8], user: &mut UserOctets) -> Result<Content, Fault>
 
 // A fixed frame: nothing after its header.
 fn read_fixed(octets: &[u8], user: &mut UserOctets) -> Result<Content, Fault>
-    requires { 7 ≤ length octets.now }
     ensures answer { result ≡ content_read (fixed_verdict octets.now) }
     ensures filled { user.new ≡ filled_record (fixed_verdict octets.now) user.old }
 {
-    if octets.len() != HEADER {
+    let [_, _, _, control, address, _, _] = *octets else {
         return Err(Fault::at(Cause::WrongLength, octets.len()));
-    }
+    };
     fill_record(user, &[]);
     Ok(Content::Fixed {
-        control: Control { octet: octets[3] },
-        address: octets[4],
+        control: Control { octet: control },
+        address,
     })
 }
 
@@ -80,14 +69,10 @@ fn read_variable(octets: &[u8], count: usize, user: &mut UserOctets) -> Result<C
         return Err(Fault::at(Cause::WrongLength, octets.len()));
     }
     let mut opened = [0u8; MOST_OCTETS];
-    let mut done = 0;
-    let mut place = HEADER;
-    for block in octets[HEADER..].chunks(SEALED) {
-        check_block(block, place)?;
+    for (i, block) in octets[HEADER..].chunks(SEALED).enumerate() {
+        check_block(block, HEADER + i * SEALED)?;
         let size = block.len() - CHECK;
-        opened[done..done + size].copy_from_slice(&block[..size]);
-        done += size;
-        place += SEALED;
+        opened[i * BLOCK..i * BLOCK + size].copy_from_slice(&block[..size]);
     }
     fill_record(user, &opened[..count]);
     Ok(Content::Variable {
@@ -108,10 +93,9 @@ fn read_headed(octets: &[u8], user: &mut UserOctets) -> Result<Content, Fault>
         return Err(Fault::at(Cause::WrongLength, octets.len()));
     }
     check_block(&octets[2..HEADER], 2)?;
-    let length = octets[2] as usize;
-    match length {
+    match octets[2] {
         0 => read_fixed(octets, user),
-        3..=66 => read_variable(octets, length - 2, user),
+        length @ 3..=66 => read_variable(octets, length as usize - 2, user),
         _ => Err(Fault::at(Cause::WrongLength, 2)),
     }
 }

@@ -1,12 +1,11 @@
-use Rattle.std.proofs.Common.{refl, ap, ◌∙◌}
-use Rattle.ft12.proofs.Buffers.{check_more}
+use Rattle.std.proofs.Common.{◌≡◌, ◌+◌, ◌%◌, ◌∙◌, refl, arith, rules}
 use Rattle.ft12.proofs.check_octet.Goals as goal
-use Rattle.ft12.specs.Frames.{check_of}
-use Rattle.std.proofs.lemmas.List.{take_all}
-
-pub loop-octet-preserved : goal.loop-octet-preserved
-loop-octet-preserved c =
-    check_more c.args.octets.now c.loop-octet.octet-index c.loop-octet.sum _ c.loop-octet-test.true c.loop-octet.invariant refl
+use Rattle.std.proofs.iter.runs.Made.{chains}
+use Rattle.std.proofs.lemmas.List.Folds.{fold_along}
+use Rattle.std.specs.List.{fold}
 
 pub returns : goal.returns
-returns c = c.loop-octet.invariant ∙ ap check_of (take_all _ _ c.loop-octet-test.false)
+returns c =
+    let os = c.args.octets.now in
+    let folded : c.fold.result ≡ fold (λ s x. (s + x) % 256) 0 os = search (rules, chains) in
+    folded ∙ fold_along (λ s x. (s + x) % 256) (λ s x. s + x) (λ s t. s ≡ t % 256) (λ s t x e. omega arith) 0 0 os refl

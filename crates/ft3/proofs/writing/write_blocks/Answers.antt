@@ -1,45 +1,58 @@
-use Rattle.std.proofs.Common.{ℕ, ◌+◌, ◌≤◌, List, length, sym, ap, ◌∙◌, subst, arith}
-use Rattle.ft3.specs.Buffers.{Written, room, written_all, written_more, written_none}
+use Rattle.std.proofs.Common.{◌≡◌, ◌+◌, ◌++◌, length, sym, ap, ◌∙◌, arith}
+use Rattle.crc.specs.Check.{sealed}
+use Rattle.crc.proofs.Sealed.{length_sealed}
+use Rattle.frame.proofs.Symbols.{encoded_next, encoded_none}
+use Rattle.frame.specs.Writing.{encoded_at}
+use Rattle.ft3.specs.Blocks.{blocks_none}
+use Rattle.ft3.specs.Buffers.{block_next}
+use Rattle.ft3.specs.Frames.{all_blocks}
 use Rattle.ft3.proofs.writing.write_blocks.Goals as goal
+use Rattle.ft3.proofs.writing.write_blocks.Goals.{In-Some}
 
 pub loop-block-init : goal.loop-block-init
 loop-block-init c =
-    let all = ap (λ s. s.rest.now) c.into_iter-block-iterator.ensures.into_iter_gives ∙ c.chunks-block-items.ensures.rest in (
-      ap (λ s. s.size) c.into_iter-block-iterator.ensures.into_iter_gives ∙ c.chunks-block-items.ensures.size,
-      subst (λ (rest : List ℕ). Written c.args.user.now c.args.buffer.now c.args.buffer.now rest 7) (sym all) (written_none c.args.user.now c.args.buffer.now),
-    )
+    let all = ap (λ s. s.rest.now) c.into_iter-block-iterator.ensures.into_iter_gives ∙ c.chunks-block-items.ensures.rest in
+    record {
+      size = ap (λ s. s.size) c.into_iter-block-iterator.ensures.into_iter_gives ∙ c.chunks-block-items.ensures.size;
+      counts = ap (λ us. c.args.place + length (all_blocks us)) all;
+      written = ap (λ us. encoded_at (λ o. o) c.args.place (all_blocks us) c.args.buffer.now) all;
+    }
 
-fits : (c : goal.In-Some) → c.loop-block.end + length c.in-Some.block.now + 2 ≤ 79
-fits c =
-    let steps = c.in-Some.ensures.steps in
+next : (c : In-Some) →
     let rest = c.loop-block.block-iterator.rest.now in
-    room c.args.user.now c.args.buffer.now c.loop-block.buffer rest c.in-Some.block.now c.next.new.self.rest.now c.loop-block.end c.loop-block.block-iterator.size
-    c.loop-block.invariant.1 c.requires.0 c.loop-block.invariant.0 steps.1.0 steps.1.1 steps.1.2
+    let left = c.next.new.self.rest.now in
+    (all_blocks rest ≡ sealed c.in-Some.block.now ++ all_blocks left) × (length (all_blocks rest) ≡ length c.in-Some.block.now + 2 + length (all_blocks left))
+next c =
+    let steps = c.in-Some.ensures.steps in
+    block_next c.loop-block.block-iterator.rest.now c.in-Some.block.now c.next.new.self.rest.now c.loop-block.block-iterator.size
+    c.loop-block.invariant.size steps.1.0 steps.1.1 steps.1.2
 
-pub overflow_add-end : goal.overflow_add-end
-overflow_add-end c = omega (arith, fits c)
-
-pub overflow_add-end-in-loop-block : goal.overflow_add-end-in-loop-block
-overflow_add-end-in-loop-block c = omega (arith, fits c)
-
-pub offset_bounds-buffer-start : goal.offset_bounds-buffer-start
-offset_bounds-buffer-start c = omega (arith, fits c)
-
-pub slice_bounds-put_block-end : goal.slice_bounds-put_block-end
-slice_bounds-put_block-end c = omega (arith, fits c)
+pub put_block-end-requires : goal.put_block-end-requires
+put_block-end-requires c = omega (arith, (next (goal.at.put_block-end-requires c).In-Some).1)
 
 pub loop-block-preserved : goal.loop-block-preserved
 loop-block-preserved c =
-    let steps = c.in-Some.ensures.steps in
-    let rest = c.loop-block.block-iterator.rest.now in (
-      steps.0 ∙ c.loop-block.invariant.0,
-      written_more c.args.user.now c.args.buffer.now c.loop-block.buffer rest c.in-Some.block.now c.next.new.self.rest.now c.put_block.new.part c.loop-block.end c.loop-block.block-iterator.size
-          c.loop-block.invariant.1 c.requires.0 (omega arith) c.loop-block.invariant.0 steps.1.0 steps.1.1 steps.1.2 c.put_block.ensures,
-    )
+    let n = next (goal.at.loop-block-preserved c).In-Some in
+    let block = c.in-Some.block.now in
+    let left = c.next.new.self.rest.now in
+    let end = c.put_block-end.result in
+    record {
+      size = c.in-Some.ensures.steps.0 ∙ c.loop-block.invariant.size;
+      counts = omega (arith, n.1);
+      written =
+          ap (encoded_at (λ o. o) end (all_blocks left)) c.put_block-end.ensures.written ∙
+          encoded_next (λ o. o) (sealed block) (all_blocks left) c.loop-block.buffer c.loop-block.end end (omega (arith, n.1)) (omega (arith, length_sealed block)) ∙
+          ap (λ z. encoded_at (λ o. o) c.loop-block.end z c.loop-block.buffer) (sym n.0) ∙
+          c.loop-block.invariant.written;
+    }
 
 pub returns : goal.returns
 returns c =
-    let all =
-    written_all c.args.user.now c.args.buffer.now c.loop-block.buffer c.loop-block.block-iterator.rest.now c.loop-block.end c.loop-block.invariant.1 c.in-None.ensures.steps.1.0
-    in
-    record { end = all.0; written = all.1 }
+    let none = blocks_none c.loop-block.block-iterator.rest.now c.in-None.ensures.steps.1.0 in
+    record {
+      end = omega (arith, ap length none);
+      written =
+          sym (encoded_none (λ o. o) c.loop-block.buffer c.loop-block.end) ∙
+          ap (λ z. encoded_at (λ o. o) c.loop-block.end z c.loop-block.buffer) (sym none) ∙
+          c.loop-block.invariant.written;
+    }

@@ -1,5 +1,5 @@
 use Rattle.std.proofs.Common.{◌/◌}
-use Rattle.ft12.proofs.symbol.decode.Goals as goal
+use Rattle.ft12.proofs.symbol.Ft12Alphabet.decode.Goals as goal
 use Rattle.std.proofs.lemmas.Nat.{and_mask}
 
 pub returns : goal.returns
