@@ -163,8 +163,8 @@ impl<P: Slots<Item = Arrival>, Q: Slots<Item = Report>, F: Format> Concentrator<
         }
         let _ = self.reports.put(Report {
             station,
-            service: exchange.request.service(),
-            outcome: ending.outcome(),
+            service: exchange.request.into(),
+            outcome: ending.into(),
             flags,
             transmissions: exchange.transmissions,
         });
@@ -221,7 +221,7 @@ impl<P: Slots<Item = Arrival>, Q: Slots<Item = Report>, F: Format> Concentrator<
     {
         check_buffer::<F>(buffer)?;
         check_station(station)?;
-        let Some(class) = Class::of(class) else {
+        let Ok(class) = Class::try_from(class) else {
             return Err(Fault::of(Cause::BadClass));
         };
         self.open(station, Request::Poll(class), buffer)
@@ -265,7 +265,7 @@ impl<P: Slots<Item = Arrival>, Q: Slots<Item = Report>, F: Format> Concentrator<
         };
         let ending = verdict(&exchange, &telegram)?;
         self.close(exchange, ending, flags(&telegram));
-        Ok(ending.outcome())
+        Ok(ending.into())
     }
 
     // Takes the oldest report. Refused with 22.

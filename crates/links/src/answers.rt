@@ -72,7 +72,7 @@ pub fn verdict(exchange: &Exchange, telegram: &Telegram) -> Result<Ending, Fault
         Telegram::Single => single_ends(exchange.request),
         Telegram::Fixed { control, address } => {
             check_sender(control, address, exchange.station)?;
-            fixed_ends(Reply::of(control.code()), exchange.request)
+            fixed_ends(Reply::try_from(control.code()).ok(), exchange.request)
         }
         Telegram::Variable {
             control,
@@ -80,7 +80,11 @@ pub fn verdict(exchange: &Exchange, telegram: &Telegram) -> Result<Ending, Fault
             message,
         } => {
             check_sender(control, address, exchange.station)?;
-            variable_ends(Reply::of(control.code()), exchange.request, message)
+            variable_ends(
+                Reply::try_from(control.code()).ok(),
+                exchange.request,
+                message,
+            )
         }
     }
 }

@@ -34,7 +34,7 @@ fn fixed(bit: bool, valid: bool, function: Function, address: u8) -> Telegram
     ensures { result ≡ Fixed (record { octet = primary_octet bit valid (function_code function) }) address }
 {
     Telegram::Fixed {
-        control: Control::primary(bit, valid, function.code()),
+        control: Control::primary(bit, valid, function.into()),
         address,
     }
 }
@@ -48,7 +48,7 @@ pub fn transmission(exchange: &Exchange) -> Telegram
         Request::Reset => fixed(false, false, Function::Reset, address),
         Request::Status => fixed(false, false, Function::Status, address),
         Request::Send(message) => Telegram::Variable {
-            control: Control::primary(exchange.bit, true, Function::Send.code()),
+            control: Control::primary(exchange.bit, true, Function::Send.into()),
             address,
             message,
         },
