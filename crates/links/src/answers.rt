@@ -65,6 +65,7 @@ fn check_sender(control: Control, address: u8, station: u8) -> Result<(), Fault>
 }
 
 // How an answer ends the exchange, or why it is none to it.
+#[tactic(auto, unfolding(rules::specs::Concentrator::verdict))]
 pub fn verdict(exchange: &Exchange, telegram: &Telegram) -> Result<Ending, Fault>
     ensures { result ≡ verdict exchange.now telegram.now }
 {
@@ -109,6 +110,7 @@ pub fn flags(telegram: &Telegram) -> Flags
 }
 
 // The link after an exchange: every answer to a send or a poll flips its bit; doubt and not served unset it.
+#[tactic(auto, unfolding(rules::specs::Concentrator::link_after))]
 pub fn link_after(request: Request, ending: Ending, link: Link) -> Link
     ensures { result ≡ link_after request ending link }
 {
