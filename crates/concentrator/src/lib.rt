@@ -20,9 +20,7 @@ ghost use Rattle.std.specs.Prelude.{◌≡◌, ◌≤◌, not, length, Ok, Match
 use account::two_ends_hold;
 use fault::{Cause, Fault};
 use frame::Format;
-use links::{
-    LinkTable, NO_FLAGS, STATIONS, flags, is_ready, link_after, link_asked, transmission, verdict,
-};
+use links::{LinkTable, STATIONS, flags, is_ready, link_after, link_asked, transmission, verdict};
 use queue::{Queue, Slots, check_slots};
 use rules::link::Link;
 use rules::message::Message;
@@ -242,7 +240,7 @@ impl<P: Slots<Item = Arrival>, Q: Slots<Item = Report>, F: Format> Concentrator<
             return Err(Fault::of(Cause::NoExchange));
         };
         if exchange.transmissions > u16::from(self.repetitions) {
-            self.close(exchange, Ending::Doubted, NO_FLAGS);
+            self.close(exchange, Ending::Doubted, Flags::default());
             return Ok(0);
         }
         exchange.transmissions += 1;

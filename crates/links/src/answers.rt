@@ -90,18 +90,12 @@ pub fn verdict(exchange: &Exchange, telegram: &Telegram) -> Result<Ending, Fault
     }
 }
 
-// ACD and DFC of an answer that has neither, or that never came.
-pub const NO_FLAGS: Flags = Flags {
-    acd: false,
-    dfc: false,
-};
-
 // ACD and DFC as heard.
 pub fn flags(telegram: &Telegram) -> Flags
     ensures { result ≡ flags_of telegram.now }
 {
     match *telegram {
-        Telegram::Single => NO_FLAGS,
+        Telegram::Single => Flags::default(),
         Telegram::Fixed { control, .. } | Telegram::Variable { control, .. } => Flags {
             acd: control.acd(),
             dfc: control.dfc(),

@@ -25,6 +25,14 @@ function_code fn.Status = 9
 function_code fn.PollFirst = 10
 function_code fn.PollSecond = 11
 
+-- what a request asks
+abbrev pub function_asked : Request → Function
+function_asked request.Reset = fn.Reset
+function_asked request.Status = fn.Status
+function_asked (request.Send m) = fn.Send
+function_asked (request.Poll First) = fn.PollFirst
+function_asked (request.Poll Second) = fn.PollSecond
+
 -- what a code asks, if anything
 abbrev pub function_of : ℕ → Option Function
 function_of k =

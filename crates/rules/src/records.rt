@@ -1,6 +1,6 @@
 // The closed lists of the link, and the records that its queues hold.
 ghost use Rattle.rules.specs.Concentrator.{asking, request_of};
-ghost use Rattle.rules.specs.Functions.{Decodes, class_of, function_code, function_of, reply_code, reply_of, service_of};
+ghost use Rattle.rules.specs.Functions.{Decodes, class_of, function_asked, function_code, function_of, reply_code, reply_of, service_of};
 ghost use Rattle.rules.specs.Records.{outcome_of};
 ghost use Rattle.std.specs.Prelude.{◌≡◌};
 
@@ -42,6 +42,20 @@ impl TryFrom<u8> for Function {
             10 => Ok(Function::PollFirst),
             11 => Ok(Function::PollSecond),
             _ => Err(UnknownCode(code)),
+        }
+    }
+}
+
+impl From<Request> for Function {
+    ghost from_gives = { λ request r. r ≡ function_asked request };
+
+    fn from(request: Request) -> Function {
+        match request {
+            Request::Reset => Function::Reset,
+            Request::Status => Function::Status,
+            Request::Send(_) => Function::Send,
+            Request::Poll(Class::First) => Function::PollFirst,
+            Request::Poll(Class::Second) => Function::PollSecond,
         }
     }
 }
@@ -226,7 +240,7 @@ impl Arrival {
 }
 
 // ACD and DFC of an answer, both false where none was heard.
-#[derive(Clone, Copy, PartialEq, Eq, Debug)]
+#[derive(Clone, Copy, Default, PartialEq, Eq, Debug)]
 pub struct Flags {
     pub acd: bool,
     pub dfc: bool,
