@@ -28,6 +28,15 @@ pub trait Slots {
     }
 }
 
+#[tactic(auto, using(std::proofs::lemmas::List::set_past))]
+fn write_at<T: Copy>(all: &mut [T], at: usize, x: T)
+    ensures { all.new ≡ slice_set all.old at x }
+{
+    if at < all.len() {
+        all[at] = x;
+    }
+}
+
 // Slots that a caller lends.
 impl<'a, T: Copy> Slots for &'a mut [T] {
     type Item = T;
@@ -38,11 +47,8 @@ impl<'a, T: Copy> Slots for &'a mut [T] {
         self
     }
 
-    #[tactic(auto, using(std::proofs::lemmas::List::set_past))]
     fn write(&mut self, at: usize, x: T) {
-        if at < self.len() {
-            self[at] = x;
-        }
+        write_at(self, at, x);
     }
 }
 
@@ -56,11 +62,8 @@ impl<T: Copy> Slots for Vec<T> {
         self
     }
 
-    #[tactic(auto, using(std::proofs::lemmas::List::set_past))]
     fn write(&mut self, at: usize, x: T) {
-        if at < self.len() {
-            self[at] = x;
-        }
+        write_at(self.as_mut_slice(), at, x);
     }
 }
 
@@ -74,10 +77,7 @@ impl<T: Copy, const N: usize> Slots for [T; N] {
         self
     }
 
-    #[tactic(auto, using(std::proofs::lemmas::List::set_past))]
     fn write(&mut self, at: usize, x: T) {
-        if at < N {
-            self[at] = x;
-        }
+        write_at(self.as_mut_slice(), at, x);
     }
 }
