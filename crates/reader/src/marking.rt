@@ -40,9 +40,7 @@ impl<S: Slots<Item = Message>, F: Format> Reader<S, F> {
         ensures moved { view S.items self.new ≡ with_link self.old.link self.old.stored None (view S.items self.old) }
         ensures kept { marked.new ≡ record_after result self.old.out marked.old }
     {
-        let message = self.out?;
-        *marked = message;
-        self.out = None;
+        *marked = self.out.take()?;
         Some(mark)
     }
 }
