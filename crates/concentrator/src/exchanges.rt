@@ -10,7 +10,7 @@ use crate::Concentrator;
 use crate::requests::check_buffer;
 use fault::{Cause, Fault};
 use frame::Format;
-use links::{NO_FLAGS, flags, link_after, transmission, verdict};
+use links::{flags, link_after, transmission, verdict};
 use queue::Slots;
 use rules::records::{Arrival, Ending, Exchange, Flags, Outcome, Report};
 use rules::telegram::{read_telegram, write_telegram};
@@ -29,8 +29,8 @@ impl<P: Slots<Item = Arrival>, Q: Slots<Item = Report>, F: Format> Concentrator<
         }
         let _ = self.reports.put(Report {
             station,
-            service: exchange.request.service(),
-            outcome: ending.outcome(),
+            service: exchange.request.into(),
+            outcome: ending.into(),
             flags,
             transmissions: exchange.transmissions,
         });
@@ -51,7 +51,7 @@ impl<P: Slots<Item = Arrival>, Q: Slots<Item = Report>, F: Format> Concentrator<
             return Err(Fault::of(Cause::NoExchange));
         };
         if exchange.transmissions > u16::from(self.repetitions) {
-            self.close(exchange, Ending::Doubted, NO_FLAGS);
+            self.close(exchange, Ending::Doubted, Flags::default());
             return Ok(0);
         }
         exchange.transmissions += 1;
@@ -73,6 +73,6 @@ impl<P: Slots<Item = Arrival>, Q: Slots<Item = Report>, F: Format> Concentrator<
         };
         let ending = verdict(&exchange, &telegram)?;
         self.close(exchange, ending, flags(&telegram));
-        Ok(ending.outcome())
+        Ok(ending.into())
     }
 }

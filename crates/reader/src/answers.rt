@@ -25,7 +25,7 @@ impl<S: Slots<Item = Message>, F: Format> Reader<S, F> {
         ensures { result ≡ control_of reply (view S.items self.now) }
     {
         let Flags { acd, dfc } = self.flags();
-        Control::secondary(acd, dfc, reply.code())
+        Control::secondary(acd, dfc, reply.into())
     }
 
     pub(crate) fn says(&self, reply: Reply) -> Telegram

@@ -124,7 +124,7 @@ impl<S: Slots<Item = Message>, F: Format> Reader<S, F> {
         ensures turn { Follows (answer_to (asked (function_of (code_of control.octet)) (bit 16 control.octet) (bit 32 control.octet) message) (view S.items self.old)) (view S.items self.old) (view S.items self.new) marked.old marked.new result }
         ensures refused { OnErr result (self.new ≡ self.old) }
     {
-        let Some(function) = Function::of(control.code()) else {
+        let Ok(function) = Function::try_from(control.code()) else {
             return Ok(Response::still(self.says(Reply::NotImplemented)));
         };
         let task = match (function, control.fcv(), message) {

@@ -125,7 +125,7 @@ impl<S: Slots<Item = Message>, F: Format> Reader<S, F> {
         ensures refused { OnErr result (self.new ≡ self.old) }
     {
         let message = Message::new(octets)?;
-        let Some(class) = Class::of(class) else {
+        let Ok(class) = Class::try_from(class) else {
             return Err(Fault::of(Cause::BadClass));
         };
         self.class_mut(class).put(message)
