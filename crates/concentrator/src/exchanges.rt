@@ -37,8 +37,8 @@ impl<P: Slots<Item = Arrival>, Q: Slots<Item = Report>, F: Format> Concentrator<
         self.exchange = None;
     }
 
-    // No answer came: writes the same frame again, or ends the exchange in doubt, answers 0 and writes nothing. Refused
-    // with 20, 13.
+    // No answer came: writes the same frame again, or ends the exchange in doubt, writes nothing and answers 0, as
+    // section 10 of docs/RULES.md has it. Refused with 20, 13.
     pub fn time_out(&mut self, buffer: &mut [u16]) -> Result<usize, Fault>
         ensures answer { result ≡ timed_answer F.frame (time_out (nat_lt (length buffer.old) F.longest) (view self.old)) }
         ensures moved { view self.new ≡ timed_after (time_out (nat_lt (length buffer.old) F.longest) (view self.old)) (view self.old) }
@@ -47,9 +47,7 @@ impl<P: Slots<Item = Arrival>, Q: Slots<Item = Report>, F: Format> Concentrator<
         ensures appended { DoubtAppends (time_out (nat_lt (length buffer.old) F.longest) (view self.old)) (view self.old) (view self.new) }
     {
         check_buffer::<F>(buffer)?;
-        let Some(mut exchange) = self.exchange else {
-            return Err(Fault::of(Cause::NoExchange));
-        };
+        let mut exchange = self.exchange.ok_or(Fault::of(Cause::NoExchange))?;
         if exchange.transmissions > u16::from(self.repetitions) {
             self.close(exchange, Ending::Doubted, Flags::default());
             return Ok(0);
@@ -68,9 +66,7 @@ impl<P: Slots<Item = Arrival>, Q: Slots<Item = Report>, F: Format> Concentrator<
         ensures appended { HearAppends (flags_read (telegram_read (F.verdict burst.now))) (hear (telegram_read (F.verdict burst.now)) (view self.old)) (view self.old) (view self.new) }
     {
         let telegram = read_telegram::<F>(burst)?;
-        let Some(exchange) = self.exchange else {
-            return Err(Fault::of(Cause::NoExchange));
-        };
+        let exchange = self.exchange.ok_or(Fault::of(Cause::NoExchange))?;
         let ending = verdict(&exchange, &telegram)?;
         self.close(exchange, ending, flags(&telegram));
         Ok(ending.into())

@@ -29,7 +29,7 @@ pub(crate) fn check_buffer<F: Format>(buffer: &[u16]) -> Result<(), Fault>
 fn check_station(station: u8) -> Result<(), Fault>
     ensures { result ≡ must (within 1 32 station) (fault BadStation 0) (Ok tt) }
 {
-    if station < 1 || station > STATIONS {
+    if !(1..=STATIONS).contains(&station) {
         return Err(Fault::of(Cause::BadStation));
     }
     Ok(())

@@ -48,7 +48,7 @@ pub struct Heard {
 pub fn check(plan: ReaderPlan) -> Result<(), Fault>
     ensures { result ≡ reader_check plan.address plan.class1 plan.class2 plan.inbox }
 {
-    if plan.address < 1 || plan.address > 32 {
+    if !(1..=32).contains(&plan.address) {
         return Err(Fault::of(Cause::BadStation));
     }
     check_slots(plan.class1)?;
