@@ -258,7 +258,7 @@ module _ (w : World) (i : Inv w) where
       (some_same (sym e ∙ ap (λ b. found b w.stations) (sym c ∙ sym (eqb-true (address_of q) (address_of s) z)) ∙ p))
       (record { same = turn_address s.reader (Ok y) t; on = o })) (λ q z p. on_same w.concentrator.links q) (own_found w.stations i.apart)
 
-module _ {X : Type 0} (F : Ghosts X) (exact : VerdictLaw F.frame F.verdict) (guarded : GuardLaw F.width F.guard F.frame) where
+module _ {X : Type 0} (F : Ghosts X) (exact : VerdictLaw F.frame F.verdict) (guarded : GuardLaw F.WIDTH F.GUARD F.frame) where
   steps_hears : (w : World) (i : Inv w) (short : Bool) (a k : ℕ) (b : Burst) (heard : List ℕ) → OnWay a k b w → SaysWell b → HeardAs F b heard
       → (o : Option Station) → found a w.stations ≡ o → Steps w (line.hears_at F o short b.number heard (leaves a k b w))
   steps_hears w i short a k b heard lim v d None e = steps_same w

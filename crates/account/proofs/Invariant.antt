@@ -404,7 +404,7 @@ lost_inv w i = record {
       known = p.known;
     }
 
-module _ {X : Type 0} (F : Ghosts X) (exact : VerdictLaw F.frame F.verdict) (guarded : GuardLaw F.width F.guard F.frame) where
+module _ {X : Type 0} (F : Ghosts X) (exact : VerdictLaw F.frame F.verdict) (guarded : GuardLaw F.WIDTH F.GUARD F.frame) where
   -- what is read of a burst is what it says, or nothing
   pub same_telegram : (b : Burst) (heard : List ℕ) → SaysWell b → HeardAs F b heard → (t : Telegram) → telegram_read (F.verdict heard) ≡ Ok t → t ≡ b.telegram
   same_telegram b heard v d t e = go (F.verdict heard) refl e

@@ -50,6 +50,6 @@ module _ {X : Type 0} (F : Ghosts X) where
   run_on r (then q e lim) = then (run_on r q) e lim
 
   -- the addresses of a line stay apart
-  pub stay_apart : VerdictLaw F.frame F.verdict → GuardLaw F.width F.guard F.frame → (r i j : ℕ) (readers : List ReaderPlan) → Apart readers → (w : World)
+  pub stay_apart : VerdictLaw F.frame F.verdict → GuardLaw F.WIDTH F.GUARD F.frame → (r i j : ℕ) (readers : List ReaderPlan) → Apart readers → (w : World)
       → Run F (new_world r i j readers) w → Distinct w.stations
   stay_apart exact guarded r i j readers apart w run = (inv_run F exact guarded run (new_valid r i j readers apart) (inv_new r i j readers apart)).apart

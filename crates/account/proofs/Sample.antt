@@ -74,7 +74,7 @@ unfolding ones ones_in
 none_inverted [] = refl
 none_inverted (x ∷ l) = let e : ones (bit_xor x x) ≡ 0 = ap ones (xor_self x) in omega (arith, e, none_inverted l)
 
-module _ {X : Type 0} (F : Ghosts X) (size : SizeLaw F.width F.longest F.frame) (exact : VerdictLaw F.frame F.verdict) where
+module _ {X : Type 0} (F : Ghosts X) (size : SizeLaw F.WIDTH F.LONGEST F.frame) (exact : VerdictLaw F.frame F.verdict) where
   -- a burst as it was sent is heard, and read as what it says
   as_sent : (b : Burst) → Sayable b.telegram → HeardAs F b (F.frame (carried b.telegram))
   as_sent b s =
@@ -118,7 +118,7 @@ abbrev all_allowed : List Move → World → Bool
 all_allowed [] w = true
 all_allowed (m ∷ ms) w = allowed m w && all_allowed ms (move m w)
 
-module _ {X : Type 0} (F : Ghosts X) (size : SizeLaw F.width F.longest F.frame) (exact : VerdictLaw F.frame F.verdict) (v : World) (ok : ValidWorld v) where
+module _ {X : Type 0} (F : Ghosts X) (size : SizeLaw F.WIDTH F.LONGEST F.frame) (exact : VerdictLaw F.frame F.verdict) (v : World) (ok : ValidWorld v) where
   moves_run : (ms : List Move) (w : World) → all_allowed ms w ≡ true → Run F v w → Run F v (moves ms w)
   moves_run [] w h run = run
   moves_run (m ∷ ms) w h run =
@@ -147,7 +147,7 @@ it_came : Comes (found 5 finish.stations)
 unfolding co.verdict co.link_after rd.hear_telegram rd.take_in rd.give_out rd.repeat
 it_came = record { sends = refl; entered = refl; handed = refl; arrived = refl }
 
-pub comes_through : {X : Type 0} (F : Ghosts X) → SizeLaw F.width F.longest F.frame → VerdictLaw F.frame F.verdict → ComesThrough F
+pub comes_through : {X : Type 0} (F : Ghosts X) → SizeLaw F.WIDTH F.LONGEST F.frame → VerdictLaw F.frame F.verdict → ComesThrough F
 comes_through F size exact = record {
   world = finish;
   run = moves_run F size exact start (new_valid 3 4 4 one_reader (refl, tt, tt)) sample start it_runs begin;

@@ -65,7 +65,7 @@ account w i b a s e =
       bits = λ n. bits w.concentrator s (at_rest w.concentrator s w.concentrator.exchange refl n i.state.live w.bursts p) (link_to w.concentrator s).set s.reader.link.set refl refl;
     }
 
-module _ {X : Type 0} (F : Ghosts X) (exact : VerdictLaw F.frame F.verdict) (guarded : GuardLaw F.width F.guard F.frame) where
+module _ {X : Type 0} (F : Ghosts X) (exact : VerdictLaw F.frame F.verdict) (guarded : GuardLaw F.WIDTH F.GUARD F.frame) where
   pub two_ends : TwoEndsOver F
   two_ends r i j readers apart w run =
       let valid = valid_run F run (new_valid r i j readers apart) in

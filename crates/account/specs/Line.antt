@@ -164,7 +164,7 @@ module _ {X : Type 0} (F : Ghosts X) where
 
   -- what is heard of a burst is its frame, cut short and damaged within the guard, or whole
   abbrev pub HeardAs : Burst → List ℕ → Type 0
-  HeardAs b heard = Damaged F.width F.guard (F.frame (carried b.telegram)) heard
+  HeardAs b heard = Damaged F.WIDTH F.GUARD (F.frame (carried b.telegram)) heard
 
   -- the two limits of a run: a time-out needs a silent line, a hearing (or a loss) a burst on the way to that end
   abbrev pub Limit : Event → World → Type 0

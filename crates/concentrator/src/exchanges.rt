@@ -40,11 +40,11 @@ impl<P: Slots<Item = Arrival>, Q: Slots<Item = Report>, F: Format> Concentrator<
     // No answer came: writes the same frame again, or ends the exchange in doubt, writes nothing and answers 0, as
     // section 10 of docs/RULES.md has it. Refused with 20, 13.
     pub fn time_out(&mut self, buffer: &mut [u16]) -> Result<usize, Fault>
-        ensures answer { result ≡ timed_answer F.frame (time_out (nat_lt (length buffer.old) F.longest) (view self.old)) }
-        ensures moved { view self.new ≡ timed_after (time_out (nat_lt (length buffer.old) F.longest) (view self.old)) (view self.old) }
-        ensures written { buffer.new ≡ timed_buffer F.frame (time_out (nat_lt (length buffer.old) F.longest) (view self.old)) buffer.old }
+        ensures answer { result ≡ timed_answer F.frame (time_out (nat_lt (length buffer.old) F.LONGEST) (view self.old)) }
+        ensures moved { view self.new ≡ timed_after (time_out (nat_lt (length buffer.old) F.LONGEST) (view self.old)) (view self.old) }
+        ensures written { buffer.new ≡ timed_buffer F.frame (time_out (nat_lt (length buffer.old) F.LONGEST) (view self.old)) buffer.old }
         ensures refused { OnErr result (self.new ≡ self.old) }
-        ensures appended { DoubtAppends (time_out (nat_lt (length buffer.old) F.longest) (view self.old)) (view self.old) (view self.new) }
+        ensures appended { DoubtAppends (time_out (nat_lt (length buffer.old) F.LONGEST) (view self.old)) (view self.old) (view self.new) }
     {
         check_buffer::<F>(buffer)?;
         let mut exchange = self.exchange.ok_or(Fault::of(Cause::NoExchange))?;

@@ -18,9 +18,9 @@ use rules::telegram::write_telegram;
 
 // A buffer has room for the longest frame, whatever is written.
 pub(crate) fn check_buffer<F: Format>(buffer: &[u16]) -> Result<(), Fault>
-    ensures { result ≡ must (not (nat_lt (length buffer.now) F.longest)) (fault ShortBuffer 0) (Ok tt) }
+    ensures { result ≡ must (not (nat_lt (length buffer.now) F.LONGEST)) (fault ShortBuffer 0) (Ok tt) }
 {
-    if buffer.len() < F::limits().longest {
+    if buffer.len() < F::LONGEST {
         return Err(Fault::of(Cause::ShortBuffer));
     }
     Ok(())
@@ -48,7 +48,7 @@ impl<P: Slots<Item = Arrival>, Q: Slots<Item = Report>, F: Format> Concentrator<
 
     // Opens the exchange of a request and writes its frame. Refused with 17, 18, 19.
     fn open(&mut self, station: u8, request: Request, buffer: &mut [u16]) -> Result<usize, Fault>
-        requires { F.longest ≤ length buffer.old }
+        requires { F.LONGEST ≤ length buffer.old }
         ensures answer { result ≡ sent_answer F.frame (request_as (Ok request) station (view self.old)) }
         ensures moved { view self.new ≡ sent_after (request_as (Ok request) station (view self.old)) (view self.old) }
         ensures written { buffer.new ≡ sent_buffer F.frame (request_as (Ok request) station (view self.old)) buffer.old }
@@ -84,9 +84,9 @@ impl<P: Slots<Item = Arrival>, Q: Slots<Item = Report>, F: Format> Concentrator<
         asked: UserRequest<'_>,
         buffer: &mut [u16],
     ) -> Result<usize, Fault>
-        ensures answer { result ≡ sent_answer F.frame (requested (nat_lt (length buffer.old) F.longest) station (asking asked.entry) (view self.old)) }
-        ensures moved { view self.new ≡ sent_after (requested (nat_lt (length buffer.old) F.longest) station (asking asked.entry) (view self.old)) (view self.old) }
-        ensures written { buffer.new ≡ sent_buffer F.frame (requested (nat_lt (length buffer.old) F.longest) station (asking asked.entry) (view self.old)) buffer.old }
+        ensures answer { result ≡ sent_answer F.frame (requested (nat_lt (length buffer.old) F.LONGEST) station (asking asked.entry) (view self.old)) }
+        ensures moved { view self.new ≡ sent_after (requested (nat_lt (length buffer.old) F.LONGEST) station (asking asked.entry) (view self.old)) (view self.old) }
+        ensures written { buffer.new ≡ sent_buffer F.frame (requested (nat_lt (length buffer.old) F.LONGEST) station (asking asked.entry) (view self.old)) buffer.old }
         ensures refused { OnErr result (self.new ≡ self.old) }
     {
         check_buffer::<F>(buffer)?;

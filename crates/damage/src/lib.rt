@@ -43,15 +43,14 @@ pub fn heard<F: Format>(
     symbols: &[u16],
     damage: &Damage,
 ) -> Result<Vec<u16>, DamageError>
-    ensures answer { Answers result (hearing F.width F.guard damage.now.cut damage.now.flips.items symbols.now) }
-    ensures damaged { IfOk result (λ v. Fits F.width symbols.now → Damaged F.width F.guard symbols.now v.items) }
+    ensures answer { Answers result (hearing F.WIDTH F.GUARD damage.now.cut damage.now.flips.items symbols.now) }
+    ensures damaged { IfOk result (λ v. Fits F.WIDTH symbols.now → Damaged F.WIDTH F.GUARD symbols.now v.items) }
 {
-    let limits = F::limits();
     let flips = damage.flips.as_slice();
     let Some(rest) = cut_short(symbols, damage.cut) else {
         return Err(DamageError::NothingCut);
     };
-    if !are_within(flips, rest.len(), limits.width) {
+    if !are_within(flips, rest.len(), F::WIDTH) {
         return Err(DamageError::FlipOutside);
     }
     let Ok(mut heard) = Vec::from_slice(heap, rest) else {
@@ -60,7 +59,7 @@ pub fn heard<F: Format>(
     if !invert_all(&mut heard, rest, flips) {
         return Err(DamageError::FlipTwice);
     }
-    if flips.len() > limits.guard as usize {
+    if flips.len() > F::GUARD as usize {
         return Err(DamageError::BeyondGuard);
     }
     Ok(heard)

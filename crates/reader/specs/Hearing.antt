@@ -30,7 +30,7 @@ pub record Follows (t : Result Turn Fault) (before after : Reader) (old new : Me
 module _ {X : Type 0} (F : Ghosts X) where
   -- the turn of a burst, with this buffer for the answer
   abbrev pub hearing : List ℕ → List ℕ → Reader → Result Turn Fault
-  hearing burst buffer r = hear (nat_lt (length buffer) F.longest) (telegram_read (F.verdict burst)) r
+  hearing burst buffer r = hear (nat_lt (length buffer) F.LONGEST) (telegram_read (F.verdict burst)) r
 
   -- what hear answers: the count of the answer's symbols, whether a message was taken in, and the mark
   abbrev pub heard_answer : Result Turn Fault → Result Heard Fault

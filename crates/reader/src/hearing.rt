@@ -61,7 +61,7 @@ impl<S: Slots<Item = Message>, F: Format> Reader<S, F> {
         ensures written { buffer.new ≡ heard_buffer F.Format (hearing F.Format burst.now buffer.old (view S.items self.old)) buffer.old }
         ensures refused { OnErr result (self.new ≡ self.old) }
     {
-        if buffer.len() < F::limits().longest {
+        if buffer.len() < F::LONGEST {
             return Err(Fault::of(Cause::ShortBuffer));
         }
         let telegram = read_telegram::<F>(burst)?;

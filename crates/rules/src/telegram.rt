@@ -47,8 +47,8 @@ pub fn read_telegram<F: Format>(burst: &[u16]) -> Result<Telegram, Fault>
 // The frame of a telegram at the front of the buffer, and the count of its symbols; 20 if the buffer is under the
 // longest frame, and then it is untouched.
 pub fn write_telegram<F: Format>(telegram: Telegram, buffer: &mut [u16]) -> Result<usize, Fault>
-    ensures answer { result ≡ say_answer F.Format.longest F.Format.frame telegram buffer.old }
-    ensures written { buffer.new ≡ buffer_said F.Format.longest F.Format.frame telegram buffer.old }
+    ensures answer { result ≡ say_answer F.Format.LONGEST F.Format.frame telegram buffer.old }
+    ensures written { buffer.new ≡ buffer_said F.Format.LONGEST F.Format.frame telegram buffer.old }
 {
     match telegram {
         Telegram::Single => F::write(Content::Single, &[0; 64], buffer),

@@ -68,8 +68,8 @@ module _ {X : Type 0} (F : Ghosts X) where
   since_valid false v w e ok = subst ValidWorld e ok
 
   -- every burst of a lawful line fits the width
-  pub burst_fits : SizeLaw F.width F.longest F.frame → (started : Bool) (w : World) → Lawful F started w
-      → (k : ℕ) (b : Burst) → k < length w.bursts → get_or w.bursts k b ≡ b → Fits F.width (F.frame (carried b.telegram))
+  pub burst_fits : SizeLaw F.WIDTH F.LONGEST F.frame → (started : Bool) (w : World) → Lawful F started w
+      → (k : ℕ) (b : Burst) → k < length w.bursts → get_or w.bursts k b ≡ b → Fits F.WIDTH (F.frame (carried b.telegram))
   burst_fits size started w l k b h e =
       let v = new_world l.0 l.1 l.2 l.3 in
       let ok = since_valid started v w l.5 (new_valid l.0 l.1 l.2 l.3 l.4) in
@@ -246,8 +246,8 @@ module _ {X : Type 0} (F : Ghosts X) where
           nth_map (sent_of F) w.bursts k ∙
           ap (option_map (sent_of F)) b_nth
 
-      pub is_heard : SizeLaw F.width F.longest F.frame → (heard : List ℕ)
-          → (Fits F.width (F.frame (carried b.telegram)) → Damaged F.width F.guard (F.frame (carried b.telegram)) heard) → HeardAs F b heard
+      pub is_heard : SizeLaw F.WIDTH F.LONGEST F.frame → (heard : List ℕ)
+          → (Fits F.WIDTH (F.frame (carried b.telegram)) → Damaged F.WIDTH F.GUARD (F.frame (carried b.telegram)) heard) → HeardAs F b heard
       is_heard size heard d = d (burst_fits F size m.started w st.lawful k b within_line b_is)
 
       -- the line without it

@@ -222,15 +222,15 @@ module _ {X : Type 0} (F : Ghosts X) where
   -- a request, after what it needs was prepared: m₁ is the memory then
   pub requests_come : (m m₁ m₂ m' : Memory) (places : ℕ) (a : ℕ) (q : Asking) → OctetsAsked q → (b₀ b₁ : List ℕ) (sent : Result ℕ Fault) (r : Result ℕ Trouble)
       → m₁ ≡ m → length b₀ ≡ places → m₂.readers ≡ m₁.readers → m₂.line ≡ m₁.line
-      → sent ≡ sent_answer F.frame (co.request (ltb (length b₀) F.longest) a q m₁.concentrator)
-      → m₂.concentrator ≡ sent_after (co.request (ltb (length b₀) F.longest) a q m₁.concentrator) m₁.concentrator
-      → b₁ ≡ sent_buffer F.frame (co.request (ltb (length b₀) F.longest) a q m₁.concentrator) b₀
+      → sent ≡ sent_answer F.frame (co.request (ltb (length b₀) F.LONGEST) a q m₁.concentrator)
+      → m₂.concentrator ≡ sent_after (co.request (ltb (length b₀) F.LONGEST) a q m₁.concentrator) m₁.concentrator
+      → b₁ ≡ sent_buffer F.frame (co.request (ltb (length b₀) F.LONGEST) a q m₁.concentrator) b₀
       → Transmitted sent b₁ m₂ m' r
-      → Comes r (sent_as m (co.request (ltb places F.longest) a q m.concentrator)) m m' (λ w. line.requests (ltb places F.longest) a q)
+      → Comes r (sent_as m (co.request (ltb places F.LONGEST) a q m.concentrator)) m m' (λ w. line.requests (ltb places F.LONGEST) a q)
   requests_come m m₁ m₂ m' places a q lim b₀ b₁ sent r e n readers same s k b t =
-      subst (λ z. Comes r (sent_as z (co.request (ltb places F.longest) a q z.concentrator)) z m' (λ w. line.requests (ltb places F.longest) a q)) e
-      (subst (λ p. Comes r (sent_as m₁ (co.request (ltb p F.longest) a q m₁.concentrator)) m₁ m' (λ w. line.requests (ltb p F.longest) a q)) n
-      (request_goes m₁ m₂ m' (ltb (length b₀) F.longest) a q lim b₀ b₁ sent r readers same _ refl (asks m₁.concentrator a (ltb (length b₀) F.longest) q lim) s k b t))
+      subst (λ z. Comes r (sent_as z (co.request (ltb places F.LONGEST) a q z.concentrator)) z m' (λ w. line.requests (ltb places F.LONGEST) a q)) e
+      (subst (λ p. Comes r (sent_as m₁ (co.request (ltb p F.LONGEST) a q m₁.concentrator)) m₁ m' (λ w. line.requests (ltb p F.LONGEST) a q)) n
+      (request_goes m₁ m₂ m' (ltb (length b₀) F.LONGEST) a q lim b₀ b₁ sent r readers same _ refl (asks m₁.concentrator a (ltb (length b₀) F.LONGEST) q lim) s k b t))
 
   -- ## a time-out
 
@@ -283,16 +283,16 @@ module _ {X : Type 0} (F : Ghosts X) where
   -- a time-out, after what it needs was prepared: m₁ is the memory then
   pub time_outs_come : (m m₁ m₂ m' : Memory) (places : ℕ) → Silent m.line → (x : Option Exchange) → x ≡ m.concentrator.exchange → (b₀ b₁ : List ℕ) (timed : Result ℕ Fault) (r : Result TimedOut Trouble)
       → m₁ ≡ m → length b₀ ≡ places → m₂.readers ≡ m₁.readers → m₂.line ≡ m₁.line
-      → timed ≡ timed_answer F.frame (co.time_out (ltb (length b₀) F.longest) m₁.concentrator)
-      → m₂.concentrator ≡ timed_after (co.time_out (ltb (length b₀) F.longest) m₁.concentrator) m₁.concentrator
-      → b₁ ≡ timed_buffer F.frame (co.time_out (ltb (length b₀) F.longest) m₁.concentrator) b₀
+      → timed ≡ timed_answer F.frame (co.time_out (ltb (length b₀) F.LONGEST) m₁.concentrator)
+      → m₂.concentrator ≡ timed_after (co.time_out (ltb (length b₀) F.LONGEST) m₁.concentrator) m₁.concentrator
+      → b₁ ≡ timed_buffer F.frame (co.time_out (ltb (length b₀) F.LONGEST) m₁.concentrator) b₀
       → TimedSo x m₂ m' b₁ r timed
-      → Comes r (timed_as m (co.time_out (ltb places F.longest) m.concentrator)) m m' (λ w. line.times_out (ltb places F.longest))
+      → Comes r (timed_as m (co.time_out (ltb places F.LONGEST) m.concentrator)) m m' (λ w. line.times_out (ltb places F.LONGEST))
   time_outs_come m m₁ m₂ m' places silent x was b₀ b₁ timed r e n readers same s k b t =
       let t' : TimedSo m₁.concentrator.exchange m₂ m' b₁ r timed = subst (λ z. TimedSo z m₂ m' b₁ r timed) (was ∙ ap (λ z. z.concentrator.exchange) (sym e)) t in
-      let short = ltb (length b₀) F.longest in
-      subst (λ z. Comes r (timed_as z (co.time_out (ltb places F.longest) z.concentrator)) z m' (λ w. line.times_out (ltb places F.longest))) e
-      (subst (λ p. Comes r (timed_as m₁ (co.time_out (ltb p F.longest) m₁.concentrator)) m₁ m' (λ w. line.times_out (ltb p F.longest))) n
+      let short = ltb (length b₀) F.LONGEST in
+      subst (λ z. Comes r (timed_as z (co.time_out (ltb places F.LONGEST) z.concentrator)) z m' (λ w. line.times_out (ltb places F.LONGEST))) e
+      (subst (λ p. Comes r (timed_as m₁ (co.time_out (ltb p F.LONGEST) m₁.concentrator)) m₁ m' (λ w. line.times_out (ltb p F.LONGEST))) n
       (time_out_goes m₁ m₂ m' short (subst (λ z. Silent z.line) (sym e) silent) b₀ b₁ timed r readers same _ refl (times m₁.concentrator short) s k b t'))
 
   -- ## a reader's offer
@@ -325,13 +325,13 @@ module _ {X : Type 0} (F : Ghosts X) where
 
   -- ## a burst that the concentrator hears
 
-  module _ (size : SizeLaw F.width F.longest F.frame) (m m₂ m' : Memory) (heard : List ℕ) (x : Option Exchange) (was : x ≡ m.concentrator.exchange)
+  module _ (size : SizeLaw F.WIDTH F.LONGEST F.frame) (m m₂ m' : Memory) (heard : List ℕ) (x : Option Exchange) (was : x ≡ m.concentrator.exchange)
       (outcome : Result Outcome Fault) (r : Result Outcome Trouble) (readers : m₂.readers ≡ m.readers) (same : m₂.line ≡ m.line) (j : ℕ) where
     -- burst k, which is burst j counted from 0
     abbrev HeardK : ℕ → Result co.Ended Fault → Type 0
     HeardK k r₀ =
         on_way 0 k m.line ≡ true →
-        (Fits F.width (symbols_of (sent_at k m.line)) → Damaged F.width F.guard (symbols_of (sent_at k m.line)) heard) →
+        (Fits F.WIDTH (symbols_of (sent_at k m.line)) → Damaged F.WIDTH F.GUARD (symbols_of (sent_at k m.line)) heard) →
         Hears x k outcome m₂ m' r →
         (r ≡ told (heard_answer r₀)) × Leads F (is_made r) m m' (λ w. line.concentrator_hears j (burst_of k w) heard)
 
@@ -347,9 +347,9 @@ module _ {X : Type 0} (F : Ghosts X) where
         )
       where
         heard_as : (w : World) (st : Stands F m w) → on_way 0 (suc j) m.line ≡ true
-            → (Fits F.width (symbols_of (sent_at (suc j) m.line)) → Damaged F.width F.guard (symbols_of (sent_at (suc j) m.line)) heard) → HeardAs F (burst_of (suc j) w) heard
+            → (Fits F.WIDTH (symbols_of (sent_at (suc j) m.line)) → Damaged F.WIDTH F.GUARD (symbols_of (sent_at (suc j) m.line)) heard) → HeardAs F (burst_of (suc j) w) heard
         heard_as w st on d = is_heard F m m' w st 0 0 refl (omega arith) j on size heard
-            (subst (λ z. Fits F.width (symbols_of z) → Damaged F.width F.guard (symbols_of z) heard) (sent_is F m m' w st 0 0 refl (omega arith) j on) d)
+            (subst (λ z. Fits F.WIDTH (symbols_of z) → Damaged F.WIDTH F.GUARD (symbols_of z) heard) (sent_is F m m' w st 0 0 refl (omega arith) j on) d)
     heard_goes t read (Ok y) is (closes {t = u} x' end open-was v) s k on d q =
         let q' : Hears x (suc j) (Ok (outcome_of end)) m₂ m' r = subst (λ z. Hears x (suc j) z m₂ m' r) s q in
         let n = number_of (sent_at (suc j) m₂.line) in
@@ -360,14 +360,14 @@ module _ {X : Type 0} (F : Ghosts X) where
               let number : n ≡ (burst_of (suc j) w).number = ap (λ z. number_of (sent_at (suc j) z)) same ∙ ap number_of there in
               let changed = subst (λ z. Changes ShowsReader z m'.readers (change x'.station (ended n x'.request end))) readers (c.1 end refl) in
               hearing_ends F m m' w st c.3 j on heard
-              (is_heard F m m' w st 0 0 refl (omega arith) j on size heard (subst (λ z. Fits F.width (symbols_of z) → Damaged F.width F.guard (symbols_of z) heard) there d))
+              (is_heard F m m' w st 0 0 refl (omega arith) j on size heard (subst (λ z. Fits F.WIDTH (symbols_of z) → Damaged F.WIDTH F.GUARD (symbols_of z) heard) there d))
               y is (c.0 ∙ k) (subst (λ z. Changes ShowsReader m.readers m'.readers (change x'.station (ended z x'.request end))) number changed) (c.2 ∙ ap (arrived 0 (suc j)) same)),
         )
 
-  pub hearings_come : SizeLaw F.width F.longest F.frame → (m m₁ m₂ m' : Memory) (k : ℕ) (heard : List ℕ) (x : Option Exchange) → x ≡ m.concentrator.exchange
+  pub hearings_come : SizeLaw F.WIDTH F.LONGEST F.frame → (m m₁ m₂ m' : Memory) (k : ℕ) (heard : List ℕ) (x : Option Exchange) → x ≡ m.concentrator.exchange
       → (outcome : Result Outcome Fault) (r : Result Outcome Trouble) → m₁ ≡ m → m₂.readers ≡ m₁.readers → m₂.line ≡ m₁.line
       → outcome ≡ heard_answer (co.hear (telegram_read (F.verdict heard)) m₁.concentrator) → m₂.concentrator ≡ heard_after (co.hear (telegram_read (F.verdict heard)) m₁.concentrator) m₁.concentrator
-      → on_way 0 k m.line ≡ true → (Fits F.width (symbols_of (sent_at k m.line)) → Damaged F.width F.guard (symbols_of (sent_at k m.line)) heard) → Hears x k outcome m₂ m' r
+      → on_way 0 k m.line ≡ true → (Fits F.WIDTH (symbols_of (sent_at k m.line)) → Damaged F.WIDTH F.GUARD (symbols_of (sent_at k m.line)) heard) → Hears x k outcome m₂ m' r
       → (r ≡ told (heard_answer (co.hear (telegram_read (F.verdict heard)) m.concentrator))) × Leads F (is_made r) m m' (λ w. line.concentrator_hears (k - 1) (burst_of k w) heard)
   hearings_come size m m₁ m₂ m' k heard x was outcome r e readers same s a on d q =
       let back : suc (k - 1) ≡ k = counted k m.line on in

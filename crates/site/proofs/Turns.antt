@@ -118,7 +118,7 @@ module _ {X : Type 0} (F : Ghosts X) (short : Bool) (heard : List ℕ) where
       (new ≡ marked_by r o old) ×
       Leads F (is_made r) m m' (λ w. line.reader_hears short a j (burst_of k w) heard)
 
-  module _ (size : SizeLaw F.width F.longest F.frame) (m m' : Memory) (xs : List Kept) (a p j : ℕ) (placed : Some p ≡ place_of a m.readers)
+  module _ (size : SizeLaw F.WIDTH F.LONGEST F.frame) (m m' : Memory) (xs : List Kept) (a p j : ℕ) (placed : Some p ≡ place_of a m.readers)
       (b₀ b₁ : List ℕ) (x : Kept) (is : at a m.readers ≡ Some x) (old new : Message) (r : Result Answer Trouble) where
     abbrev i : ℕ
     i = suc p
@@ -127,7 +127,7 @@ module _ {X : Type 0} (F : Ghosts X) (short : Bool) (heard : List ℕ) where
     n = number_of (sent_at (suc j) m.line)
 
     module _ (on : on_way i (suc j) m.line ≡ true)
-        (d : Fits F.width (symbols_of (sent_at (suc j) m.line)) → Damaged F.width F.guard (symbols_of (sent_at (suc j) m.line)) heard) where
+        (d : Fits F.WIDTH (symbols_of (sent_at (suc j) m.line)) → Damaged F.WIDTH F.GUARD (symbols_of (sent_at (suc j) m.line)) heard) where
       number_is : (w : World) (st : Stands F m w) → n ≡ (burst_of (suc j) w).number
       number_is w st = let q = reader_end F m w st a p placed in ap number_of (sent_is F m m' w st i a q.0 q.1 j on)
 
@@ -135,7 +135,7 @@ module _ {X : Type 0} (F : Ghosts X) (short : Bool) (heard : List ℕ) where
       heard_as w st =
           let q = reader_end F m w st a p placed in
           is_heard F m m' w st i a q.0 q.1 j on size heard
-          (subst (λ z. Fits F.width (symbols_of z) → Damaged F.width F.guard (symbols_of z) heard) (sent_is F m m' w st i a q.0 q.1 j on) d)
+          (subst (λ z. Fits F.WIDTH (symbols_of z) → Damaged F.WIDTH F.GUARD (symbols_of z) heard) (sent_is F m m' w st i a q.0 q.1 j on) d)
 
       -- the partner on the line
       partner_at : (w : World) → Stands F m w → Partners a (Some x) w.stations
@@ -208,15 +208,15 @@ pub record Parts {X : Type 0} (F : Ghosts X) (m : Memory) (short : Bool) (burst 
   pub unmade_so : is_called (Some ho) ≡ false → xs ≡ m.readers
   pub answered_so : Answered a end k ho b₁ (with_readers xs m) m' r
 
-module _ {X : Type 0} (F : Ghosts X) (size : SizeLaw F.width F.longest F.frame) (m m₁ m' : Memory) (places : ℕ) (burst heard b₀ b₁ : List ℕ) (number : ℕ) (xs : List Kept) (a p k : ℕ)
+module _ {X : Type 0} (F : Ghosts X) (size : SizeLaw F.WIDTH F.LONGEST F.frame) (m m₁ m' : Memory) (places : ℕ) (burst heard b₀ b₁ : List ℕ) (number : ℕ) (xs : List Kept) (a p k : ℕ)
     (ho : Result Heard Refusal) (old new : Message) (r : Result Answer Trouble) where
   abbrev brief : Bool
-  brief = ltb (length b₀) F.longest
+  brief = ltb (length b₀) F.LONGEST
 
   pub turns_come : m₁ ≡ m → length b₀ ≡ places → burst ≡ heard → number ≡ number_of (sent_at k m.line) → Some p ≡ place_of a m.readers → on_way (suc p) k m.line ≡ true
-      → (Fits F.width (symbols_of (sent_at k m.line)) → Damaged F.width F.guard (symbols_of (sent_at k m.line)) heard)
+      → (Fits F.WIDTH (symbols_of (sent_at k m.line)) → Damaged F.WIDTH F.GUARD (symbols_of (sent_at k m.line)) heard)
       → Parts F m₁ brief burst b₀ b₁ number xs a (suc p) k ho old new m' r
-      → TurnedSo F (ltb places F.longest) heard m m' a (k - 1) k (at a m.readers) old new r
+      → TurnedSo F (ltb places F.LONGEST) heard m m' a (k - 1) k (at a m.readers) old new r
   turns_come e l b n placed on d parts =
       let late = (on_way_parts (suc p) k m.line on).0 in
       let back : suc (k - 1) ≡ k = omega (arith, late) in
@@ -226,9 +226,9 @@ module _ {X : Type 0} (F : Ghosts X) (size : SizeLaw F.width F.longest F.frame) 
       let p₄ : Parts F m brief heard b₀ b₁ (number_of (sent_at (suc (k - 1)) m.line)) xs a (suc p) (suc (k - 1)) ho old new m' r =
       subst (λ z. Parts F m brief heard b₀ b₁ (number_of (sent_at z m.line)) xs a (suc p) z ho old new m' r) (sym back) p₃ in
       let on₁ : on_way (suc p) (suc (k - 1)) m.line ≡ true = subst (λ z. on_way (suc p) z m.line ≡ true) (sym back) on in
-      let d₁ : Fits F.width (symbols_of (sent_at (suc (k - 1)) m.line)) → Damaged F.width F.guard (symbols_of (sent_at (suc (k - 1)) m.line)) heard =
-      subst (λ z. Fits F.width (symbols_of (sent_at z m.line)) → Damaged F.width F.guard (symbols_of (sent_at z m.line)) heard) (sym back) d in
-      subst (λ z. TurnedSo F (ltb z F.longest) heard m m' a (k - 1) k (at a m.readers) old new r) l
+      let d₁ : Fits F.WIDTH (symbols_of (sent_at (suc (k - 1)) m.line)) → Damaged F.WIDTH F.GUARD (symbols_of (sent_at (suc (k - 1)) m.line)) heard =
+      subst (λ z. Fits F.WIDTH (symbols_of (sent_at z m.line)) → Damaged F.WIDTH F.GUARD (symbols_of (sent_at z m.line)) heard) (sym back) d in
+      subst (λ z. TurnedSo F (ltb z F.LONGEST) heard m m' a (k - 1) k (at a m.readers) old new r) l
       (subst (λ z. TurnedSo F brief heard m m' a (k - 1) z (at a m.readers) old new r) back
       (go (at a m.readers) refl p₄.told_so p₄.kept_so p₄.written_so placed on₁ d₁ p₄))
     where
@@ -236,7 +236,7 @@ module _ {X : Type 0} (F : Ghosts X) (size : SizeLaw F.width F.longest F.frame) 
           → MatchOption o (new ≡ old) (λ x. new ≡ cond (refusals.no_memory ho) old (record_after (mark_heard (turn_of F brief heard x.reader)) x.reader.out old))
           → MatchOption o (b₁ ≡ b₀) (λ x. b₁ ≡ cond (refusals.no_memory ho) b₀ (heard_buffer F (turn_of F brief heard x.reader) b₀))
           → Some p ≡ place_of a m.readers → on_way (suc p) (suc (k - 1)) m.line ≡ true
-          → (Fits F.width (symbols_of (sent_at (suc (k - 1)) m.line)) → Damaged F.width F.guard (symbols_of (sent_at (suc (k - 1)) m.line)) heard)
+          → (Fits F.WIDTH (symbols_of (sent_at (suc (k - 1)) m.line)) → Damaged F.WIDTH F.GUARD (symbols_of (sent_at (suc (k - 1)) m.line)) heard)
           → Parts F m brief heard b₀ b₁ (number_of (sent_at (suc (k - 1)) m.line)) xs a (suc p) (suc (k - 1)) ho old new m' r
           → TurnedSo F brief heard m m' a (k - 1) (suc (k - 1)) o old new r
       go None is t v w placed on₁ d₁ q = none_some (sym t)

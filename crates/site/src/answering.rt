@@ -71,9 +71,9 @@ impl<F: Format> Site<F> {
         places: usize,
         marked: &mut Message,
     ) -> Result<Answer, Trouble>
-        ensures answer { result ≡ (if no_memory result then Err trouble.OutOfMemory else at_end (option_map suc (place_of address (seen self.old).readers)) (λ end. (if on_way end k (seen self.old).line then undamaged (damaging F.width F.guard damage.now.cut damage.now.flips.items (symbols_of (sent_at k (seen self.old).line))) (λ heard. answered_as (seen self.old) (option_map (λ x. hear (nat_lt places F.longest) (telegram_read (F.verdict heard)) x.reader) (at address (seen self.old).readers))) else Err trouble.NotOnWay))) }
+        ensures answer { result ≡ (if no_memory result then Err trouble.OutOfMemory else at_end (option_map suc (place_of address (seen self.old).readers)) (λ end. (if on_way end k (seen self.old).line then undamaged (damaging F.WIDTH F.GUARD damage.now.cut damage.now.flips.items (symbols_of (sent_at k (seen self.old).line))) (λ heard. answered_as (seen self.old) (option_map (λ x. hear (nat_lt places F.LONGEST) (telegram_read (F.verdict heard)) x.reader) (at address (seen self.old).readers))) else Err trouble.NotOnWay))) }
         ensures kept { marked.new ≡ marked_by result (at address (seen self.old).readers) marked.old }
-        ensures steps { Leads F.Format (is_made result) (seen self.old) (seen self.new) (λ w. reader_hears (nat_lt places F.longest) address (k - 1) (burst_of k w) (heard_of damage.now.cut damage.now.flips.items (symbols_of (sent_at k (seen self.old).line)))) }
+        ensures steps { Leads F.Format (is_made result) (seen self.old) (seen self.new) (λ w. reader_hears (nat_lt places F.LONGEST) address (k - 1) (burst_of k w) (heard_of damage.now.cut damage.now.flips.items (symbols_of (sent_at k (seen self.old).line)))) }
     {
         let Some(place) = self.readers.find(address) else {
             return Err(Trouble::NoReader);

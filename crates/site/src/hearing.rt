@@ -24,8 +24,8 @@ use rules::records::{Exchange, Outcome};
 impl<F: Format> Site<F> {
     // What is heard of burst k with some damage.
     pub(crate) fn listen(&self, k: usize, damage: &Damage) -> Result<Vec<u16>, Trouble>
-        ensures answer { Listened result (damaging F.width F.guard damage.now.cut damage.now.flips.items (symbols_of (sent_at k (seen self.now).line))) }
-        ensures damaged { IfOk result (λ v. Fits F.width (symbols_of (sent_at k (seen self.now).line)) → Damaged F.width F.guard (symbols_of (sent_at k (seen self.now).line)) v.items) }
+        ensures answer { Listened result (damaging F.WIDTH F.GUARD damage.now.cut damage.now.flips.items (symbols_of (sent_at k (seen self.now).line))) }
+        ensures damaged { IfOk result (λ v. Fits F.WIDTH (symbols_of (sent_at k (seen self.now).line)) → Damaged F.WIDTH F.GUARD (symbols_of (sent_at k (seen self.now).line)) v.items) }
     {
         let symbols = self.line.symbols(k).unwrap_or(&[]);
         match damage::heard::<F>(self.heap, symbols, damage) {
@@ -77,7 +77,7 @@ impl<F: Format> Site<F> {
 
     // The concentrator hears burst k: read's faults, 13, 8, 9, 10.
     pub fn hear_at_concentrator(&mut self, k: usize, damage: &Damage) -> Result<Outcome, Trouble>
-        ensures answer { result ≡ (if no_memory result then Err trouble.OutOfMemory else (if on_way 0 k (seen self.old).line then undamaged (damaging F.width F.guard damage.now.cut damage.now.flips.items (symbols_of (sent_at k (seen self.old).line))) (λ heard. told (heard_answer (hear (telegram_read (F.verdict heard)) (seen self.old).concentrator))) else Err trouble.NotOnWay)) }
+        ensures answer { result ≡ (if no_memory result then Err trouble.OutOfMemory else (if on_way 0 k (seen self.old).line then undamaged (damaging F.WIDTH F.GUARD damage.now.cut damage.now.flips.items (symbols_of (sent_at k (seen self.old).line))) (λ heard. told (heard_answer (hear (telegram_read (F.verdict heard)) (seen self.old).concentrator))) else Err trouble.NotOnWay)) }
         ensures steps { Leads F.Format (is_made result) (seen self.old) (seen self.new) (λ w. concentrator_hears (k - 1) (burst_of k w) (heard_of damage.now.cut damage.now.flips.items (symbols_of (sent_at k (seen self.old).line)))) }
     {
         if !self.line.is_on_way(0, k) {

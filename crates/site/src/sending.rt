@@ -74,8 +74,8 @@ impl<F: Format> Site<F> {
 
     // Asks a station to set its link anew: 20, 14, 17, 19.
     pub fn reset(&mut self, station: u8, places: usize) -> Result<usize, Trouble>
-        ensures answer { result ≡ (if no_memory result then Err trouble.OutOfMemory else sent_as (seen self.old) (request (nat_lt places F.longest) station for_reset (seen self.old).concentrator)) }
-        ensures steps { Leads F.Format (is_made result) (seen self.old) (seen self.new) (λ w. requests (nat_lt places F.longest) station for_reset) }
+        ensures answer { result ≡ (if no_memory result then Err trouble.OutOfMemory else sent_as (seen self.old) (request (nat_lt places F.LONGEST) station for_reset (seen self.old).concentrator)) }
+        ensures steps { Leads F.Format (is_made result) (seen self.old) (seen self.new) (λ w. requests (nat_lt places F.LONGEST) station for_reset) }
     {
         let Ok(mut buffer) = self.prepare(station, places) else {
             return Err(Trouble::OutOfMemory);
@@ -86,8 +86,8 @@ impl<F: Format> Site<F> {
 
     // Asks a station how it is: 20, 14, 17, 19.
     pub fn status(&mut self, station: u8, places: usize) -> Result<usize, Trouble>
-        ensures answer { result ≡ (if no_memory result then Err trouble.OutOfMemory else sent_as (seen self.old) (request (nat_lt places F.longest) station for_status (seen self.old).concentrator)) }
-        ensures steps { Leads F.Format (is_made result) (seen self.old) (seen self.new) (λ w. requests (nat_lt places F.longest) station for_status) }
+        ensures answer { result ≡ (if no_memory result then Err trouble.OutOfMemory else sent_as (seen self.old) (request (nat_lt places F.LONGEST) station for_status (seen self.old).concentrator)) }
+        ensures steps { Leads F.Format (is_made result) (seen self.old) (seen self.new) (λ w. requests (nat_lt places F.LONGEST) station for_status) }
     {
         let Ok(mut buffer) = self.prepare(station, places) else {
             return Err(Trouble::OutOfMemory);
@@ -98,8 +98,8 @@ impl<F: Format> Site<F> {
 
     // Sends a message to a station: 20, 14, 15, 17, 18, 19.
     pub fn send(&mut self, station: u8, octets: &[u8], places: usize) -> Result<usize, Trouble>
-        ensures answer { result ≡ (if no_memory result then Err trouble.OutOfMemory else sent_as (seen self.old) (request (nat_lt places F.longest) station (for_send octets.now) (seen self.old).concentrator)) }
-        ensures steps { Leads F.Format (is_made result) (seen self.old) (seen self.new) (λ w. requests (nat_lt places F.longest) station (for_send octets.now)) }
+        ensures answer { result ≡ (if no_memory result then Err trouble.OutOfMemory else sent_as (seen self.old) (request (nat_lt places F.LONGEST) station (for_send octets.now) (seen self.old).concentrator)) }
+        ensures steps { Leads F.Format (is_made result) (seen self.old) (seen self.new) (λ w. requests (nat_lt places F.LONGEST) station (for_send octets.now)) }
     {
         are_octets(octets);
         let Ok(mut buffer) = self.prepare(station, places) else {
@@ -111,8 +111,8 @@ impl<F: Format> Site<F> {
 
     // Asks a station for its oldest message of a class: 20, 14, 16, 17, 18, 19.
     pub fn poll(&mut self, station: u8, class: u8, places: usize) -> Result<usize, Trouble>
-        ensures answer { result ≡ (if no_memory result then Err trouble.OutOfMemory else sent_as (seen self.old) (request (nat_lt places F.longest) station (for_poll class) (seen self.old).concentrator)) }
-        ensures steps { Leads F.Format (is_made result) (seen self.old) (seen self.new) (λ w. requests (nat_lt places F.longest) station (for_poll class)) }
+        ensures answer { result ≡ (if no_memory result then Err trouble.OutOfMemory else sent_as (seen self.old) (request (nat_lt places F.LONGEST) station (for_poll class) (seen self.old).concentrator)) }
+        ensures steps { Leads F.Format (is_made result) (seen self.old) (seen self.new) (λ w. requests (nat_lt places F.LONGEST) station (for_poll class)) }
     {
         let Ok(mut buffer) = self.prepare(station, places) else {
             return Err(Trouble::OutOfMemory);
@@ -124,8 +124,8 @@ impl<F: Format> Site<F> {
     // No answer came on a silent line: the frame goes out again, or the exchange ends in doubt: 20, 13.
     pub fn time_out(&mut self, places: usize) -> Result<TimedOut, Trouble>
         ensures silent { Decides (not (not_silent result)) (Silent (seen self.old).line) }
-        ensures answer { not_silent result ≡ false → result ≡ (if no_memory result then Err trouble.OutOfMemory else timed_as (seen self.old) (time_out (nat_lt places F.longest) (seen self.old).concentrator)) }
-        ensures steps { Leads F.Format (is_made result) (seen self.old) (seen self.new) (λ w. times_out (nat_lt places F.longest)) }
+        ensures answer { not_silent result ≡ false → result ≡ (if no_memory result then Err trouble.OutOfMemory else timed_as (seen self.old) (time_out (nat_lt places F.LONGEST) (seen self.old).concentrator)) }
+        ensures steps { Leads F.Format (is_made result) (seen self.old) (seen self.new) (λ w. times_out (nat_lt places F.LONGEST)) }
     {
         if !self.line.is_silent() {
             return Err(Trouble::NotSilent);

@@ -5,7 +5,7 @@ use std::fmt;
 
 // The hexadecimal digits of a symbol.
 pub fn symbol_digits<F: Format>() -> usize {
-    (F::limits().width as usize).div_ceil(4)
+    (F::WIDTH as usize).div_ceil(4)
 }
 
 pub fn write_frame<F: Format>(

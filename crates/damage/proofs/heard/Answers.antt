@@ -8,12 +8,12 @@ use Rattle.std.specs.Vec.{with_items}
 pub invert_all-requires : goal.invert_all-requires
 invert_all-requires g c =
     let r = c.in-Some.rest.now in
-    (c.deref_mut.ensures.value ∙ c.in-Ok.ensures.items, within_16 (length r) c.limits-limits.result.width c.as_slice-flips.result.now (sym c.if-not-are_within.ensures))
+    (c.deref_mut.ensures.value ∙ c.in-Ok.ensures.items, within_16 (length r) c.WIDTH.result c.as_slice-flips.result.now (sym c.if-not-are_within.ensures))
 
 pub returns : goal.returns
 returns g c =
-    let width = g.F.Format.width in
-    let guard = g.F.Format.guard in
+    let width = g.F.Format.WIDTH in
+    let guard = g.F.Format.GUARD in
     let ss = c.args.symbols.now in
     let cut = c.args.damage.now.cut in
     let fs = c.args.damage.now.flips.items in
@@ -22,10 +22,10 @@ returns g c =
     let v = c.in-Ok.heard in
     let same = c.as_slice-flips.ensures.value in
     let two : all_within (length r) width fs ≡ true =
-    ap (all_within (length r) width) (sym same) ∙ ap (λ w. all_within (length r) w c.as_slice-flips.result.now) (sym c.limits-limits.ensures.width) ∙ sym c.if-not-are_within.ensures
+    ap (all_within (length r) width) (sym same) ∙ ap (λ w. all_within (length r) w c.as_slice-flips.result.now) (sym c.WIDTH.ensures) ∙ sym c.if-not-are_within.ensures
     in
     let three : not (twice fs) ≡ true = ap (λ gs. not (twice gs)) (sym same) ∙ sym c.if-not-invert_all.ensures.answer in
-    let four : length fs ≤ guard = omega (arith, ap length same, c.limits-limits.ensures.guard, c.if-flips-limits.false) in
+    let four : length fs ≤ guard = omega (arith, ap length same, c.GUARD.ensures, c.if-flips-GUARD.false) in
     let is : out ≡ flipped fs r = c.if-not-invert_all.ensures.after refl ∙ ap (λ gs. flipped gs r) same in
     let answer : hearing width guard cut fs ss ≡ Ok (with_items v out).items =
     told width guard cut fs ss r out v c.in-Some.ensures two three four is c.in-Ok.ensures.len

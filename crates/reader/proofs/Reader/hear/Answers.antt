@@ -17,5 +17,5 @@ written longest frame t buffer f room e = grind (arith, nat_tests)
 pub returns-in_err-count : goal.returns-in_err-count
 returns-in_err-count g c =
     let F = g.F.Format in
-    let room : F.longest ≤ length c.args.buffer.now = omega arith in
-    absurd (written F.longest F.frame c.in_ok-answer.field-0.answer c.args.buffer.now _ room c.in_err-count.ensures.answer)
+    let room : F.LONGEST ≤ length c.args.buffer.now = omega arith in
+    absurd (written F.LONGEST F.frame c.in_ok-answer.field-0.answer c.args.buffer.now _ room c.in_err-count.ensures.answer)

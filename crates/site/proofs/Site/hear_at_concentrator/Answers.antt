@@ -35,5 +35,5 @@ returns g c =
     record {
       answer = told_so r (heard_answer (hear (telegram_read (F.verdict heard)) m.concentrator)) (on_way 0 k m.line) _ heard
           (λ l. told (heard_answer (hear (telegram_read (F.verdict l)) m.concentrator))) came.0 refl on p.answer;
-      steps = subst (λ l. Leads F (is_made r) m m' (λ w. concentrator_hears (k - 1) (burst_of k w) l)) (heard_is F.width F.guard damage.cut (vec_items damage.flips) symbols heard p.answer) came.1;
+      steps = subst (λ l. Leads F (is_made r) m m' (λ w. concentrator_hears (k - 1) (burst_of k w) l)) (heard_is F.WIDTH F.GUARD damage.cut (vec_items damage.flips) symbols heard p.answer) came.1;
     }

@@ -47,9 +47,9 @@ returns-in-Some-hear g c =
           next (c.hear.auto.buffer ∙ c.deref_mut.ensures.len) c.answer.ensures;
     }) in
     record {
-      answer = at_reader r (place_of a m.readers) place (λ end. on_way end k m.line) (hearing F.width F.guard damage.cut (vec_items damage.flips) symbols) heard
-          (λ l. answered_as m (option_map (λ x. hear (ltb c.args.places F.longest) (telegram_read (F.verdict l)) x.reader) (at a m.readers))) came.0 placed on p.answer;
+      answer = at_reader r (place_of a m.readers) place (λ end. on_way end k m.line) (hearing F.WIDTH F.GUARD damage.cut (vec_items damage.flips) symbols) heard
+          (λ l. answered_as m (option_map (λ x. hear (ltb c.args.places F.LONGEST) (telegram_read (F.verdict l)) x.reader) (at a m.readers))) came.0 placed on p.answer;
       kept = came.1;
-      steps = subst (λ l. Leads F (is_made r) m m' (λ w. reader_hears (ltb c.args.places F.longest) a (k - 1) (burst_of k w) l))
-          (heard_is F.width F.guard damage.cut (vec_items damage.flips) symbols heard p.answer) came.2;
+      steps = subst (λ l. Leads F (is_made r) m m' (λ w. reader_hears (ltb c.args.places F.LONGEST) a (k - 1) (burst_of k w) l))
+          (heard_is F.WIDTH F.GUARD damage.cut (vec_items damage.flips) symbols heard p.answer) came.2;
     }

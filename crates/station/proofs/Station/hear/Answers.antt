@@ -44,7 +44,7 @@ returns g c =
     let h = c.in_ok-heard.heard in
     let class = c.handed_out-class.result in
     let turn = hearing F c.args.burst.now c.args.buffer.now m in
-    let short = ltb (length c.args.buffer.now) F.longest in
+    let short = ltb (length c.args.buffer.now) F.LONGEST in
     let told_class =
     c.handed_out-class.ensures ∙
     ap (λ k. shorter k c.waiting-second.result (reader_of (record { reader = c.hear.new.self; books = c.reserve.new.self }))) c.waiting-first.ensures ∙
