@@ -7,9 +7,8 @@ ghost use Rattle.rules.specs.Telegrams.{telegram_read};
 ghost use Rattle.std.specs.Prelude.{◌≡◌, length, OnErr, nat_lt};
 
 use crate::Concentrator;
-use crate::requests::check_buffer;
 use fault::{Cause, Fault};
-use frame::Format;
+use frame::{Format, check_buffer};
 use links::{flags, link_after, transmission, verdict};
 use queue::Slots;
 use rules::records::{Arrival, Ending, Exchange, Flags, Outcome, Report};
@@ -46,7 +45,7 @@ impl<P: Slots<Item = Arrival>, Q: Slots<Item = Report>, F: Format> Concentrator<
         ensures refused { OnErr result (self.new ≡ self.old) }
         ensures appended { DoubtAppends (time_out (nat_lt (length buffer.old) F.LONGEST) (view self.old)) (view self.old) (view self.new) }
     {
-        check_buffer::<F>(buffer)?;
+        check_buffer(buffer, F::LONGEST)?;
         let mut exchange = self.exchange.ok_or(Fault::of(Cause::NoExchange))?;
         if exchange.transmissions > u16::from(self.repetitions) {
             self.close(exchange, Ending::Doubted, Flags::default());

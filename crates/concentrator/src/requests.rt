@@ -1,30 +1,20 @@
 // What the concentrator asks of a station.
 ghost use Rattle.concentrator.specs.View.{view};
 ghost use Rattle.fault.specs.Causes.{fault};
-ghost use Rattle.fault.specs.declared.Cause.TheVariants.{ShortBuffer, BadStation};
+ghost use Rattle.fault.specs.declared.Cause.TheVariants.{BadStation};
 ghost use Rattle.frame.specs.Verdicts.{must};
 ghost use Rattle.rules.specs.Concentrator.{asking, has_room, request as requested, request_as};
 ghost use Rattle.rules.specs.Exchanges.{sent_after, sent_answer, sent_buffer};
 ghost use Rattle.rules.specs.Messages.{within};
-ghost use Rattle.std.specs.Prelude.{◌≡◌, ◌≤◌, not, length, Ok, OnErr, nat_lt};
+ghost use Rattle.std.specs.Prelude.{◌≡◌, ◌≤◌, length, Ok, OnErr, nat_lt};
 
 use crate::Concentrator;
 use fault::{Cause, Fault};
-use frame::Format;
+use frame::{Format, check_buffer};
 use links::{STATIONS, is_ready, link_asked, transmission};
 use queue::Slots;
 use rules::records::{Arrival, Exchange, Report, Request, UserRequest};
 use rules::telegram::write_telegram;
-
-// A buffer has room for the longest frame, whatever is written.
-pub(crate) fn check_buffer<F: Format>(buffer: &[u16]) -> Result<(), Fault>
-    ensures { result ≡ must (not (nat_lt (length buffer.now) F.LONGEST)) (fault ShortBuffer 0) (Ok tt) }
-{
-    if buffer.len() < F::LONGEST {
-        return Err(Fault::of(Cause::ShortBuffer));
-    }
-    Ok(())
-}
 
 fn check_station(station: u8) -> Result<(), Fault>
     ensures { result ≡ must (within 1 32 station) (fault BadStation 0) (Ok tt) }
@@ -89,7 +79,7 @@ impl<P: Slots<Item = Arrival>, Q: Slots<Item = Report>, F: Format> Concentrator<
         ensures written { buffer.new ≡ sent_buffer F.frame (requested (nat_lt (length buffer.old) F.LONGEST) station (asking asked.entry) (view self.old)) buffer.old }
         ensures refused { OnErr result (self.new ≡ self.old) }
     {
-        check_buffer::<F>(buffer)?;
+        check_buffer(buffer, F::LONGEST)?;
         check_station(station)?;
         self.open(station, asked.request()?, buffer)
     }

@@ -11,7 +11,7 @@ ghost use Rattle.std.specs.Prelude.{◌≡◌, false, Some, None, Ok, OnErr};
 
 use crate::{Heard, Reader};
 use fault::{Cause, Fault};
-use frame::{Control, Format};
+use frame::{Control, Format, check_buffer};
 use queue::Slots;
 use rules::link::Link;
 use rules::message::Message;
@@ -61,9 +61,7 @@ impl<S: Slots<Item = Message>, F: Format> Reader<S, F> {
         ensures written { buffer.new ≡ heard_buffer F.Format (hearing F.Format burst.now buffer.old (view S.items self.old)) buffer.old }
         ensures refused { OnErr result (self.new ≡ self.old) }
     {
-        if buffer.len() < F::LONGEST {
-            return Err(Fault::of(Cause::ShortBuffer));
-        }
+        check_buffer(buffer, F::LONGEST)?;
         let telegram = read_telegram::<F>(burst)?;
         let Response {
             answer,

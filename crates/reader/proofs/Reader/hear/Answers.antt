@@ -1,6 +1,7 @@
-use Rattle.std.proofs.Common.{◌≡◌, ℕ, ◌≤◌, List, length, Err, arith}
+use Rattle.std.proofs.Common.{◌≡◌, ℕ, ◌≤◌, not, List, length, Ok, Err, nat_lt, arith}
 use Rattle.fault.specs.declared.Fault.{Fault}
 use Rattle.frame.specs.Contents.{Meaning}
+use Rattle.frame.specs.Verdicts.{must}
 use Rattle.reader.proofs.Reader.hear.Goals as goal
 use Rattle.rules.specs.Telegrams.{say_answer}
 use Rattle.rules.specs.declared.telegram.Telegram.{Telegram}
@@ -14,8 +15,16 @@ written :
     ⊥
 written longest frame t buffer f room e = grind (arith, nat_tests)
 
+-- a buffer that passed the check is long enough
+long_enough :
+    (longest : ℕ) (buffer : List ℕ) (f : Fault) (u : Unit {0}) →
+    Ok u ≡ must (not (nat_lt (length buffer) longest)) f (Ok tt) →
+    longest ≤ length buffer
+long_enough longest buffer f u e = grind (arith, nat_tests)
+
 pub returns-in_err-count : goal.returns-in_err-count
 returns-in_err-count g c =
     let F = g.F.Format in
+    let passed : c.LONGEST.result ≤ length c.args.buffer.now = long_enough _ _ _ _ c.in_ok-check_buffer.ensures in
     let room : F.LONGEST ≤ length c.args.buffer.now = omega arith in
     absurd (written F.LONGEST F.frame c.in_ok-answer.field-0.answer c.args.buffer.now _ room c.in_err-count.ensures.answer)
