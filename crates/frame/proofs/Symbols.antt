@@ -1,7 +1,7 @@
 -- Buffers as octets are put into them, each as the symbol that f makes of it.
-use Rattle.std.proofs.Common.{◌≡◌, ℕ, ◌+◌, ◌<◌, ◌≤◌, List, [], ◌∷◌, ◌++◌, map, length, length-append, get_or, take, drop, set, sym, ap, ◌∙◌, ap₂, add-zero, arith}
+use Rattle.std.proofs.Common.{◌≡◌, ℕ, ◌+◌, ◌<◌, ◌≤◌, List, [], ◌∷◌, ◌++◌, map, length, length-append, get_or, take, drop, set, sym, ap, ◌∙◌, ap₂, arith}
 use Rattle.frame.specs.Writing.{encoded_at}
-use Rattle.std.proofs.lemmas.List.{append_assoc, drop_at, drop-drop, drop_more, length-map, length-take-le, map-append, map_more, set_at, take-append-drop, take_at}
+use Rattle.std.proofs.lemmas.List.{append_assoc, drop_at, drop-drop, drop_more, length-map, length-take-le, map-append, map_more, set_at, take_at}
 
 -- one more symbol, made of its octet by f
 pub encode_more :
@@ -43,7 +43,3 @@ encoded_next f xs ys e n k h is =
     ap₂ (λ x z. x ++ (my ++ z)) front back ∙
     append_assoc (take n e) mx (my ++ drop end e) ∙
     ap (λ z. take n e ++ z) (sym (append_assoc mx my (drop end e)) ∙ ap₂ (λ z j. z ++ drop j e) (sym (map-append f xs ys)) whole)
-
--- nothing is put in
-pub encoded_none : (f : ℕ → ℕ) (e : List ℕ) (n : ℕ) → encoded_at f n [] e ≡ e
-encoded_none f e n = ap (λ k. take n e ++ drop k e) (add-zero n) ∙ take-append-drop n e

@@ -21,7 +21,8 @@ pub const MOST_OCTETS: usize = 64;
 // The user octets of a frame at the front, and zeros after them.
 pub type UserOctets = [u8; 64];
 
-// What a frame carries. The user octets of a variable content stand at the front of a record beside it.
+// What a frame carries. The user octets of a variable content stand at the front of a record beside it, which the
+// caller lends; a count of none or of more than 64 can be named, and write refuses it.
 #[derive(Clone, Copy, PartialEq, Eq, Debug)]
 pub enum Content {
     Single,
@@ -127,6 +128,7 @@ pub fn open_burst<A: Alphabet, const LONGEST: usize>(burst: &[u16]) -> Result<[u
 {
     check_burst::<A>(burst, LONGEST)?;
     let mut octets = [0; LONGEST];
+    // By index: a proof does not follow the elements that `iter_mut` lends.
     for (i, symbol) in burst.iter().enumerate() {
         octets[i] = A::decode(*symbol);
     }
@@ -139,6 +141,7 @@ pub fn encode_at<A: Alphabet>(buffer: &mut [u16], place: usize, octets: &[u8]) -
     ensures end { result ≡ place + length octets.now }
     ensures encoded { buffer.new ≡ encoded_at A.symbol_for place octets.now buffer.old }
 {
+    // By index, as above.
     for (i, octet) in octets.iter().enumerate() {
         buffer[place + i] = A::encode(*octet);
     }

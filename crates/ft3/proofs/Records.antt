@@ -1,14 +1,12 @@
 -- The reader's loop: what is opened, and what the blocks that are left will add.
-use Rattle.std.proofs.Common.{◌≡◌, ℕ, suc, ◌+◌, ◌-◌, ◌*◌, ◌/◌, ◌%◌, ◌<◌, ◌≤◌, min, true, eqb, List, ◌++◌, length, get_or, take, drop, Ok, Err, Result, sym, refl, ap, ◌∙◌, ap₂, subst, arith}
+use Rattle.std.proofs.Common.{◌≡◌, ℕ, suc, ◌+◌, ◌-◌, ◌*◌, ◌/◌, ◌%◌, ◌<◌, ◌≤◌, min, true, eqb, List, ◌++◌, length, take, drop, Ok, Err, Result, sym, refl, ap, ◌∙◌, ap₂, subst, arith}
 use borrow.Rule.Slice.PartMut.{put_mid}
 use Rattle.fault.specs.declared.Fault.{Fault}
-use Rattle.frame.specs.Contents.{content_read, filled_record, padded, variable}
-use Rattle.frame.specs.declared.Content.TheVariants.{Variable}
 use Rattle.frame.specs.Verdicts.{after}
 use Rattle.ft3.specs.Blocks.{cut}
 use Rattle.ft3.specs.Frames.{block_count}
 use Rattle.ft3.specs.Verdicts.{block_checked, blocks_checked, opened, opened_blocks, variable_verdict}
-use Rattle.std.proofs.lemmas.List.{append_assoc, append-nil, length-append, length-drop, length-take-le}
+use Rattle.std.proofs.lemmas.List.{append_assoc, length-append, length-drop, length-take-le}
 use Rattle.std.proofs.lemmas.Slice.{take-put_mid}
 use Rattle.std.proofs.lemmas.Bool.Decides.{nat_tests}
 
@@ -55,26 +53,6 @@ pub record Read (bs : List ℕ) (n : ℕ) (rec rest : List ℕ) (done place : �
   pub places : place + 18 * sealed_count rest ≡ 7 + 18 * block_count n
   pub uncut : Uncut rest
   pub long : length rec ≡ 64
-
-pub read_none :
-    (bs rec rest : List ℕ) (n i : ℕ) →
-    rest ≡ bs →
-    i ≡ 0 →
-    length bs ≡ n + 2 * block_count n →
-    length rec ≡ 64 →
-    Read bs n rec rest (min n (16 * i)) (7 + 18 * i)
-read_none bs rec rest n i all start h long =
-    let same : sealed_count rest ≡ block_count n = omega (arith, ap length all) in
-    let first : min n (16 * i) ≡ 0 = omega arith in
-    let place : 7 + 18 * i ≡ 7 = omega arith in
-    record {
-      checked = ap₂ (λ k p. blocks_checked k p rest) same place ∙ ap (blocks_checked (block_count n) 7) all;
-      carried = ap₂ (λ d k. take d rec ++ opened_blocks k rest) first same ∙ ap (opened_blocks (block_count n)) all;
-      counts = omega (arith, same, ap length all);
-      places = omega (arith, same);
-      uncut = omega (arith, ap length all);
-      long = long;
-    }
 
 -- what the next block needs: its check, and a place for its octets
 pub next_fits :
@@ -168,19 +146,6 @@ pub read_bad :
 read_bad bs rec rest block left n done place size f r eighteen e l h bad =
     sym r.checked ∙ checked_more rest block left place e (omega arith) h ∙ ap (λ z. after z (blocks_checked (sealed_count left) (place + 18) left)) bad
 
--- at the end
-pub read_all :
-    (bs rec rest : List ℕ) (n done place : ℕ) →
-    Read bs n rec rest done place →
-    length rest ≡ 0 →
-    (blocks_checked (block_count n) 7 bs ≡ Ok tt) × (take n rec ≡ opened_blocks (block_count n) bs)
-read_all bs rec rest n done place r h =
-    let none : sealed_count rest ≡ 0 = omega arith in
-    let all : done ≡ n = omega (arith, r.counts) in (
-      sym r.checked ∙ ap (λ k. blocks_checked k place rest) none,
-      ap (λ k. take k rec) (sym all) ∙ sym (append-nil (take done rec)) ∙ ap (λ k. take done rec ++ opened_blocks k rest) (sym none) ∙ r.carried,
-    )
-
 -- ---- the verdict
 
 -- the code's count of the blocks
@@ -195,20 +160,3 @@ pub variable_bad :
 variable_bad os n f h e =
     let t : eqb (length os) (7 + n + 2 * block_count n) ≡ true = grind (arith, nat_tests) in
     rw (t, e) refl
-
-pub variable_read :
-    (os rec user after : List ℕ) (n : ℕ) →
-    length os ≡ 7 + n + 2 * block_count n →
-    n ≤ length rec →
-    blocks_checked (block_count n) 7 (drop 7 os) ≡ Ok tt →
-    take n rec ≡ opened_blocks (block_count n) (drop 7 os) →
-    after ≡ padded (take n rec) →
-    (Ok (Variable (record { octet = get_or os 3 0 }) (get_or os 4 0) n) ≡ content_read (variable_verdict os n)) × (after ≡ filled_record (variable_verdict os n) user)
-variable_read os rec user after n h long e carried filled =
-    let us : List ℕ = opened_blocks (block_count n) (drop 7 os) in
-    let t : eqb (length os) (7 + n + 2 * block_count n) ≡ true = grind (arith, nat_tests) in
-    let good : variable_verdict os n ≡ Ok (variable (get_or os 3 0) (get_or os 4 0) us) = rw (t, e) refl in
-    let count : length us ≡ n = ap length (sym carried) ∙ length-take-le n rec long in (
-      ap (λ k. Ok (Variable (record { octet = get_or os 3 0 }) (get_or os 4 0) k)) (sym count) ∙ ap content_read (sym good),
-      filled ∙ ap padded carried ∙ ap (λ v. filled_record v user) (sym good),
-    )

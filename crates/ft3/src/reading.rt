@@ -69,6 +69,7 @@ fn read_variable(octets: &[u8], count: usize, user: &mut UserOctets) -> Result<C
         return Err(Fault::at(Cause::WrongLength, octets.len()));
     }
     let mut opened = [0u8; MOST_OCTETS];
+    // By index: a proof does not follow the parts that `chunks_mut` lends.
     for (i, block) in octets[HEADER..].chunks(SEALED).enumerate() {
         check_block(block, HEADER + i * SEALED)?;
         let size = block.len() - CHECK;

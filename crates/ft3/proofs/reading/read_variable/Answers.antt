@@ -1,25 +1,9 @@
-use Rattle.std.proofs.Common.{◌≡◌, ◌+◌, ◌*◌, length, drop, replicate, Err, sym, refl, ap, ◌∙◌, arith}
+use Rattle.std.proofs.Common.{◌≡◌, ◌+◌, ◌*◌, drop, Err, sym, ap, ◌∙◌, arith}
 use Rattle.frame.specs.Contents.{content_read, filled_record}
-use Rattle.ft3.specs.Frames.{block_count}
 use Rattle.ft3.specs.Verdicts.{block_checked, variable_verdict}
-use Rattle.ft3.proofs.Records.{ceiling, read_all, read_bad, read_next, read_none, variable_bad, variable_read}
+use Rattle.ft3.proofs.Records.{ceiling, read_bad, read_next, variable_bad}
 use Rattle.ft3.proofs.reading.read_variable.Goals as goal
-use Rattle.std.proofs.lemmas.List.{length-drop, take_rest}
 use Rattle.std.proofs.lemmas.Result.{err_from_is_err_and}
-
-pub loop-i-init : goal.loop-i-init
-loop-i-init c =
-    let os = c.args.octets.now in
-    let n = c.args.count in
-    let source = c.into_iter-i-iterator.result in
-    let gives = c.into_iter-i-iterator.ensures.into_iter_gives in
-    let from = c.enumerate-i-items.ensures in
-    let all : source.iter.rest.now ≡ drop 7 os = ap (λ s. s.iter.rest.now) gives ∙ ap (λ s. s.rest.now) from.source ∙ c.chunks.ensures.rest ∙ take_rest os 7 in
-    let count : length (drop 7 os) ≡ n + 2 * block_count n = simp length-drop (omega (arith, ceiling n c.div_ceil.result c.div_ceil.ensures)) in
-    record {
-      size = ap (λ s. s.iter.size) gives ∙ ap (λ s. s.size) from.source ∙ c.chunks.ensures.size;
-      read = read_none (drop 7 os) (replicate 64 0) source.iter.rest.now n source.count all (ap (λ s. s.count) gives ∙ from.count) count refl;
-    }
 
 pub returns-in_err-check_block : goal.returns-in_err-check_block
 returns-in_err-check_block c =
@@ -46,16 +30,3 @@ loop-i-preserved c =
       read = read_next (drop 7 c.args.octets.now) c.loop-i.opened source.iter.rest.now c.in-Some.block.now c.next.new.self.iter.rest.now c.copy_from_slice.new.self c.args.count source.count c.next.new.self.count c.in-Some.i source.iter.size
           c.loop-i.invariant.read c.requires.1.1 c.loop-i.invariant.size steps.0.1.0 steps.0.1.1 steps.0.1.2 steps.1 steps.2 (sym c.in_ok-check_block.ensures) c.copy_from_slice.ensures.after;
     }
-
-pub returns : goal.returns
-returns c =
-    let os = c.args.octets.now in
-    let n = c.args.count in
-    let all =
-    read_all (drop 7 os) c.loop-i.opened c.loop-i.i-iterator.iter.rest.now n _ _ c.loop-i.invariant.read c.in-None.ensures.steps.0.1.0
-    in
-    let w =
-    variable_read os c.loop-i.opened c.args.user.now c.fill_record.new.user n (omega (arith, ceiling n c.div_ceil.result c.div_ceil.ensures))
-    (omega (arith, c.loop-i.invariant.read.long)) all.0 all.1 c.fill_record.ensures
-    in
-    record { answer = w.0; filled = w.1 }

@@ -1,22 +1,12 @@
 use Rattle.std.proofs.Common.{◌≡◌, ◌+◌, ◌++◌, length, sym, ap, ◌∙◌, arith}
 use Rattle.crc.specs.Check.{sealed}
 use Rattle.crc.proofs.Sealed.{length_sealed}
-use Rattle.frame.proofs.Symbols.{encoded_next, encoded_none}
+use Rattle.frame.proofs.Symbols.{encoded_next}
 use Rattle.frame.specs.Writing.{encoded_at}
-use Rattle.ft3.specs.Blocks.{blocks_none}
 use Rattle.ft3.specs.Buffers.{block_next}
 use Rattle.ft3.specs.Frames.{all_blocks}
 use Rattle.ft3.proofs.writing.write_blocks.Goals as goal
 use Rattle.ft3.proofs.writing.write_blocks.Goals.{In-Some}
-
-pub loop-block-init : goal.loop-block-init
-loop-block-init c =
-    let all = ap (λ s. s.rest.now) c.into_iter-block-iterator.ensures.into_iter_gives ∙ c.chunks-block-items.ensures.rest in
-    record {
-      size = ap (λ s. s.size) c.into_iter-block-iterator.ensures.into_iter_gives ∙ c.chunks-block-items.ensures.size;
-      counts = ap (λ us. c.args.place + length (all_blocks us)) all;
-      written = ap (λ us. encoded_at (λ o. o) c.args.place (all_blocks us) c.args.buffer.now) all;
-    }
 
 next : (c : In-Some) →
     let rest = c.loop-block.block-iterator.rest.now in
@@ -43,16 +33,5 @@ loop-block-preserved c =
           ap (encoded_at (λ o. o) end (all_blocks left)) c.put_block-end.ensures.written ∙
           encoded_next (λ o. o) (sealed block) (all_blocks left) c.loop-block.buffer c.loop-block.end end (omega (arith, n.1)) (omega (arith, length_sealed block)) ∙
           ap (λ z. encoded_at (λ o. o) c.loop-block.end z c.loop-block.buffer) (sym n.0) ∙
-          c.loop-block.invariant.written;
-    }
-
-pub returns : goal.returns
-returns c =
-    let none = blocks_none c.loop-block.block-iterator.rest.now c.in-None.ensures.steps.1.0 in
-    record {
-      end = omega (arith, ap length none);
-      written =
-          sym (encoded_none (λ o. o) c.loop-block.buffer c.loop-block.end) ∙
-          ap (λ z. encoded_at (λ o. o) c.loop-block.end z c.loop-block.buffer) (sym none) ∙
           c.loop-block.invariant.written;
     }
