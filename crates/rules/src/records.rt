@@ -1,9 +1,11 @@
 // The closed lists of the link, and the records that its queues hold.
+ghost use Rattle.rules.specs.Concentrator.{asking, request_of};
 ghost use Rattle.rules.specs.Functions.{class_of, function_code, function_of, reply_code, reply_of, service_of};
 ghost use Rattle.rules.specs.Records.{outcome_of};
 ghost use Rattle.std.specs.Prelude.{◌≡◌};
 
 use crate::message::Message;
+use fault::{Cause, Fault};
 
 // What the concentrator asks of a reader, by the code of its frame.
 #[derive(Clone, Copy, PartialEq, Eq, Debug)]
@@ -119,6 +121,32 @@ impl Request {
     }
 }
 
+// What a user of the concentrator asks of a station, before its octets or its class are looked at.
+#[derive(Clone, Copy, PartialEq, Eq, Debug)]
+pub enum UserRequest<'a> {
+    Reset,
+    Status,
+    Send(&'a [u8]),
+    Poll(u8),
+}
+
+impl UserRequest<'_> {
+    // 15 unless a send has 1 to 64 octets, 16 unless a poll is of class 1 or 2.
+    pub fn request(self) -> Result<Request, Fault>
+        ensures { result ≡ request_of (asking self.entry) }
+    {
+        match self {
+            UserRequest::Reset => Ok(Request::Reset),
+            UserRequest::Status => Ok(Request::Status),
+            UserRequest::Send(octets) => Ok(Request::Send(Message::new(octets)?)),
+            UserRequest::Poll(number) => match Class::of(number) {
+                Some(class) => Ok(Request::Poll(class)),
+                None => Err(Fault::of(Cause::BadClass)),
+            },
+        }
+    }
+}
+
 // The kind of a request.
 #[derive(Clone, Copy, PartialEq, Eq, Debug)]
 pub enum Service {
@@ -222,4 +250,21 @@ pub struct Exchange {
     pub request: Request,
     pub bit: bool,
     pub transmissions: u16,
+}
+
+// A reader to be made: its address and the slots of its queues.
+#[derive(Clone, Copy, PartialEq, Eq, Debug)]
+pub struct ReaderPlan {
+    pub address: u8,
+    pub class1: usize,
+    pub class2: usize,
+    pub inbox: usize,
+}
+
+// A concentrator to be made: how often it repeats a frame, and the slots of its queues.
+#[derive(Clone, Copy, PartialEq, Eq, Debug)]
+pub struct ConcentratorPlan {
+    pub repetitions: u8,
+    pub arrivals: usize,
+    pub reports: usize,
 }
