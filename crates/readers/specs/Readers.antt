@@ -41,6 +41,16 @@ abbrev pub at : ℕ → List Kept → Option Kept
 at a [] = None
 at a (x ∷ l) = cond (x.reader.address == a) (Some x) (at a l)
 
+-- the same of the readers as the code has them
+abbrev pub station_at : {F : Type 0} → ℕ → List (Station F) → Option (Station F)
+station_at a [] = None
+station_at a (x ∷ l) = cond ((reader_of x).address == a) (Some x) (station_at a l)
+
+-- the readers after the one of an address, if there is one, became another
+abbrev pub replaced : {F : Type 0} → ℕ → Station F → List (Station F) → List (Station F)
+replaced a w [] = []
+replaced a w (x ∷ l) = cond ((reader_of x).address == a) (w ∷ l) (x ∷ replaced a w l)
+
 -- it has room in memory for one more entry in every book
 abbrev pub ReadyAt : {F : Type 0} → ℕ → Readers F → Type 0
 ReadyAt {F} a r = (i : ℕ) (x : Station F) → place_of a (readers r) ≡ Some i → x ≡ slice_index_or (vec_items r.all) i x → Ready x
