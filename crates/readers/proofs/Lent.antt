@@ -1,13 +1,13 @@
 -- The reader of an address, when it is lent: which one it is, and what the readers are after it was called.
-use Rattle.std.proofs.Common.{◌≡◌, ℕ, zero, suc, ◌<◌, Bool, true, false, cond, eqb, List, [], ◌∷◌, map, length, get_or, set, Some, None, Option, sym, refl, ap, ◌∙◌, subst, ap₂, arith, MatchOption}
+use Rattle.std.proofs.Common.{◌≡◌, ℕ, zero, suc, ◌<◌, Bool, true, false, cond, not, eqb, List, [], ◌∷◌, map, length, get_or, set, Some, None, Option, sym, refl, ap, ◌∙◌, subst, ap₂, arith, MatchOption}
 use Rattle.account.specs.Books as account
 use Rattle.account.specs.Books.{change}
 use Rattle.readers.proofs.Addresses.{change_none}
 use Rattle.readers.specs.Pairs.{Changes, Paired, addresses}
 use Rattle.readers.specs.Readers.{ShowsReader, at, kept, place_of, replaced, station_at}
-use Rattle.station.specs.Shown.{ShownChange, reader_of}
+use Rattle.station.specs.Shown.{ShownChange, books_of, reader_of}
 use Rattle.station.specs.declared.Station.{Station}
-use Rattle.std.proofs.lemmas.Bool.{eq-eqb, eqb-true, ne_eqb}
+use Rattle.std.proofs.lemmas.Bool.{eq-eqb, eqb-true, ne_eqb, true≢false}
 use Rattle.std.specs.List.{AllByRecursion, AllWithin, HoldsAt}
 use Rattle.std.specs.Option.{option_map}
 
@@ -89,6 +89,12 @@ module _ {F : Type 0} (a : ℕ) where
       go true k = refl
       go false k = k
 
+  pub lent_here : (l : List (Station F)) (x : Station F) → Some x ≡ station_at a l → at a (map kept l) ≡ Some (kept x)
+  lent_here l x e = sym (kept_at l) ∙ ap (option_map kept) (sym e)
+
+  pub none_here : (l : List (Station F)) → None ≡ station_at a l → at a (map kept l) ≡ None
+  none_here l e = sym (kept_at l) ∙ ap (option_map kept) (sym e)
+
   -- after it was called
   pub lent_changed :
       (l : List (Station F)) (x w : Station F) (f : account.Station → account.Station) → station_at a l ≡ Some x → ShownChange x w f →
@@ -146,3 +152,10 @@ module _ {F : Type 0} (a : ℕ) where
           let here : is_here w ≡ true = ap (λ k. eqb k.reader.address a) (q ∙ ap kept (sym (some_same d))) ∙ is in
           ap (λ z. cond z (Some w) (station_at a l)) here
       go false is d r = ap (λ z. cond z (Some y) (station_at a (replaced a w l))) is ∙ r d
+
+  -- after a call that was not made
+  pub lent_unmade :
+      (l : List (Station F)) (x w : Station F) (z : Bool) (u : _) (v : _) → station_at a l ≡ Some x → reader_of w ≡ cond z (reader_of x) u → books_of w ≡ cond z (books_of x) v →
+      not z ≡ false → map kept (replaced a w l) ≡ map kept l
+  lent_unmade l x w true u v e p b n = lent_same l x w e (ap₂ (λ r k. record { reader = r; books = k }) p b)
+  lent_unmade l x w false u v e p b n = absurd (true≢false n)

@@ -65,6 +65,7 @@ impl<F: Format> Readers<F> {
     pub fn get_mut(&mut self, address: u8) -> Option<&mut Station<F>>
         ensures* writes_back { sem 𝓛 (lends_station F.row self.entry address result) }
         ensures value { option_map (λ x. x.now) result ≡ station_at address self.old.all.items }
+        ensures reader { option_map (λ x. kept x.now) result ≡ at address (readers self.old) }
     {
         match self.find(address) {
             Some(i) => Some(self.station_mut(i)),
