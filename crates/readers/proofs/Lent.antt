@@ -1,11 +1,11 @@
 -- The reader of an address, when it is lent: which one it is, and what the readers are after it was called.
-use Rattle.std.proofs.Common.{◌≡◌, ℕ, zero, suc, ◌<◌, Bool, true, false, cond, not, eqb, List, [], ◌∷◌, map, length, get_or, set, Some, None, Option, sym, refl, ap, ◌∙◌, subst, ap₂, arith, MatchOption}
+use Rattle.std.proofs.Common.{◌≡◌, ℕ, zero, suc, ◌<◌, Bool, true, false, cond, not, eqb, List, [], ◌∷◌, map, length, get_or, set, Some, None, Option, sym, refl, ap, ◌∙◌, subst, ap₂, arith, IfSome, MatchOption}
 use Rattle.account.specs.Books as account
 use Rattle.account.specs.Books.{change}
 use Rattle.readers.proofs.Addresses.{change_none}
 use Rattle.readers.specs.Pairs.{Changes, Paired, addresses}
 use Rattle.readers.specs.Readers.{ShowsReader, at, kept, place_of, replaced, station_at}
-use Rattle.station.specs.Shown.{ShownChange, books_of, reader_of}
+use Rattle.station.specs.Shown.{Ready, ShownChange, books_of, reader_of}
 use Rattle.station.specs.declared.Station.{Station}
 use Rattle.std.proofs.lemmas.Bool.{eq-eqb, eqb-true, ne_eqb, true≢false}
 use Rattle.std.specs.List.{AllByRecursion, AllWithin, HoldsAt}
@@ -95,13 +95,12 @@ module _ {F : Type 0} (a : ℕ) where
   pub none_here : (l : List (Station F)) → None ≡ station_at a l → at a (map kept l) ≡ None
   none_here l e = sym (kept_at l) ∙ ap (option_map kept) (sym e)
 
-  -- after it was called
-  pub lent_changed :
+  replaced_changed :
       (l : List (Station F)) (x w : Station F) (f : account.Station → account.Station) → station_at a l ≡ Some x → ShownChange x w f →
       Changes ShowsReader (map kept l) (map kept (replaced a w l)) (change a f)
-  lent_changed [] x w f e k ys apart p = none_some e
-  lent_changed (y ∷ l) x w f e k [] apart p = absurd p
-  lent_changed (y ∷ l) x w f e k (s ∷ ys) apart p = go (is_here y) refl e (λ d. lent_changed l x w f d k ys apart.2 p.1)
+  replaced_changed [] x w f e k ys apart p = none_some e
+  replaced_changed (y ∷ l) x w f e k [] apart p = absurd p
+  replaced_changed (y ∷ l) x w f e k (s ∷ ys) apart p = go (is_here y) refl e (λ d. replaced_changed l x w f d k ys apart.2 p.1)
     where
       go : (z : Bool) → is_here y ≡ z → cond z (Some y) (station_at a l) ≡ Some x
           → (station_at a l ≡ Some x → Paired ShowsReader (map kept (replaced a w l)) (change a f ys))
@@ -117,13 +116,18 @@ module _ {F : Type 0} (a : ℕ) where
           let there : eqb s.reader.address a ≡ false = ap (λ r. eqb r.address a) (sym p.0.0) ∙ is in
           (subst (λ z. ShowsReader (kept y) (cond z (f s) s)) (sym there) p.0, r d)
 
-  -- where there is none
-  pub none_changed :
-      (l : List (Station F)) (f : account.Station → account.Station) → station_at a l ≡ None → Changes ShowsReader (map kept l) (map kept l) (change a f)
-  none_changed [] f e [] apart p = p
-  none_changed [] f e (s ∷ ys) apart p = absurd p
-  none_changed (y ∷ l) f e [] apart p = absurd p
-  none_changed (y ∷ l) f e (s ∷ ys) apart p = go (is_here y) refl e (λ d. none_changed l f d ys apart.2 p.1)
+  -- after it was called
+  pub lent_changed :
+      (l m : List (Station F)) (x w : Station F) (f : account.Station → account.Station) → Some x ≡ station_at a l → m ≡ replaced a w l → ShownChange x w f →
+      Changes ShowsReader (map kept l) (map kept m) (change a f)
+  lent_changed l m x w f e q k = subst (λ n. Changes ShowsReader (map kept l) (map kept n) (change a f)) (sym q) (replaced_changed l x w f (sym e) k)
+
+  still_changed :
+      (l : List (Station F)) (f : account.Station → account.Station) → None ≡ station_at a l → Changes ShowsReader (map kept l) (map kept l) (change a f)
+  still_changed [] f e [] apart p = p
+  still_changed [] f e (s ∷ ys) apart p = absurd p
+  still_changed (y ∷ l) f e [] apart p = absurd p
+  still_changed (y ∷ l) f e (s ∷ ys) apart p = go (is_here y) refl (sym e) (λ d. still_changed l f (sym d) ys apart.2 p.1)
     where
       go : (z : Bool) → is_here y ≡ z → cond z (Some y) (station_at a l) ≡ None
           → (station_at a l ≡ None → Paired ShowsReader (map kept l) (change a f ys))
@@ -133,19 +137,22 @@ module _ {F : Type 0} (a : ℕ) where
           let there : eqb s.reader.address a ≡ false = ap (λ r. eqb r.address a) (sym p.0.0) ∙ is in
           (subst (λ z. ShowsReader (kept y) (cond z (f s) s)) (sym there) p.0, r d)
 
-  -- after a call that changed nothing of what it shows
-  pub lent_same : (l : List (Station F)) (x w : Station F) → station_at a l ≡ Some x → kept w ≡ kept x → map kept (replaced a w l) ≡ map kept l
-  lent_same [] x w e q = refl
-  lent_same (y ∷ l) x w e q = go (is_here y) e (λ d. lent_same l x w d q)
+  -- where there is none
+  pub none_changed :
+      (l m : List (Station F)) (f : account.Station → account.Station) → None ≡ station_at a l → m ≡ l → Changes ShowsReader (map kept l) (map kept m) (change a f)
+  none_changed l m f e q = subst (λ n. Changes ShowsReader (map kept l) (map kept n) (change a f)) (sym q) (still_changed l f e)
+
+  replaced_same : (l : List (Station F)) (x w : Station F) → station_at a l ≡ Some x → kept w ≡ kept x → map kept (replaced a w l) ≡ map kept l
+  replaced_same [] x w e q = refl
+  replaced_same (y ∷ l) x w e q = go (is_here y) e (λ d. replaced_same l x w d q)
     where
       go : (z : Bool) → cond z (Some y) (station_at a l) ≡ Some x → (station_at a l ≡ Some x → map kept (replaced a w l) ≡ map kept l) → map kept (cond z (w ∷ l) (y ∷ replaced a w l)) ≡ kept y ∷ map kept l
       go true d r = ap (λ k. k ∷ map kept l) (q ∙ ap kept (sym (some_same d)))
       go false d r = ap (λ t. kept y ∷ t) (r d)
 
-  -- the one that is there after it
-  pub lent_now : (l : List (Station F)) (x w : Station F) → station_at a l ≡ Some x → kept w ≡ kept x → station_at a (replaced a w l) ≡ Some w
-  lent_now [] x w e q = none_some e
-  lent_now (y ∷ l) x w e q = go (is_here y) refl e (λ d. lent_now l x w d q)
+  replaced_now : (l : List (Station F)) (x w : Station F) → station_at a l ≡ Some x → kept w ≡ kept x → station_at a (replaced a w l) ≡ Some w
+  replaced_now [] x w e q = none_some e
+  replaced_now (y ∷ l) x w e q = go (is_here y) refl e (λ d. replaced_now l x w d q)
     where
       go : (z : Bool) → is_here y ≡ z → cond z (Some y) (station_at a l) ≡ Some x → (station_at a l ≡ Some x → station_at a (replaced a w l) ≡ Some w) → station_at a (cond z (w ∷ l) (y ∷ replaced a w l)) ≡ Some w
       go true is d r =
@@ -153,9 +160,21 @@ module _ {F : Type 0} (a : ℕ) where
           ap (λ z. cond z (Some w) (station_at a l)) here
       go false is d r = ap (λ z. cond z (Some y) (station_at a (replaced a w l))) is ∙ r d
 
-  -- after a call that was not made
-  pub lent_unmade :
-      (l : List (Station F)) (x w : Station F) (z : Bool) (u : _) (v : _) → station_at a l ≡ Some x → reader_of w ≡ cond z (reader_of x) u → books_of w ≡ cond z (books_of x) v →
-      not z ≡ false → map kept (replaced a w l) ≡ map kept l
-  lent_unmade l x w true u v e p b n = lent_same l x w e (ap₂ (λ r k. record { reader = r; books = k }) p b)
-  lent_unmade l x w false u v e p b n = absurd (true≢false n)
+  module _ (l m : List (Station F)) (x w : Station F) (e : Some x ≡ station_at a l) (q : m ≡ replaced a w l) where
+    -- after a call that changed nothing of what it shows
+    pub lent_same : reader_of w ≡ reader_of x → books_of w ≡ books_of x → map kept m ≡ map kept l
+    lent_same p b = ap (map kept) q ∙ replaced_same l x w (sym e) (ap₂ (λ r k. record { reader = r; books = k }) p b)
+
+    -- after a call that was not made
+    pub lent_unmade : (z : Bool) (u : _) (v : _) → reader_of w ≡ cond z (reader_of x) u → books_of w ≡ cond z (books_of x) v → not z ≡ false → map kept m ≡ map kept l
+    lent_unmade true u v p b n = lent_same p b
+    lent_unmade false u v p b n = absurd (true≢false n)
+
+    -- before a call that needs room, and after the one that made it
+    pub lent_ready : IfSome (station_at a l) Ready → Ready x
+    lent_ready k = subst (λ o. IfSome o Ready) (sym e) k
+
+    pub ready_now : reader_of w ≡ reader_of x → books_of w ≡ books_of x → Ready w → IfSome (station_at a m) Ready
+    ready_now p b k =
+        let there : station_at a m ≡ Some w = ap (station_at a) q ∙ replaced_now l x w (sym e) (ap₂ (λ r n. record { reader = r; books = n }) p b) in
+        subst (λ o. IfSome o Ready) (sym there) k

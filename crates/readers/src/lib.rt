@@ -1,7 +1,6 @@
 // The readers on a simulated line, each with its books, by their addresses.
 #![tactic(auto)]
 
-mod calls;
 mod exchanges;
 
 ghost use Rattle.readers.specs.Readers.{Added, at, kept, place_of, readers, station_at};

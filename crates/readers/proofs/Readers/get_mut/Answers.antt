@@ -1,4 +1,4 @@
-use Rattle.std.proofs.Common.{refl, sym, ap, ◌∙◌}
+use Rattle.std.proofs.Common.{refl, sym}
 use Rattle.readers.proofs.Lent.{lent_at, lent_here, lent_none, none_here}
 use Rattle.readers.proofs.Readers.get_mut.Goals as goal
 

@@ -1,10 +1,9 @@
-use Rattle.std.proofs.Common.{◌≡◌, map, Some, Err, sym, refl, ap, ◌∙◌, subst}
-use Rattle.account.specs.Books.{change, collected}
+use Rattle.std.proofs.Common.{◌≡◌, Some, Err, sym, refl, ap, ◌∙◌, subst}
+use Rattle.account.specs.Books.{collected}
 use Rattle.account.specs.Line.{collects}
 use Rattle.queue.specs.Fifo.{take_answer}
 use Rattle.readers.proofs.Lent.{lent_changed}
-use Rattle.readers.specs.Pairs.{Changes}
-use Rattle.readers.specs.Readers.{ShowsReader, kept, readers}
+use Rattle.readers.specs.Readers.{readers}
 use Rattle.site.proofs.Events.{stands_collected}
 use Rattle.site.proofs.Site.collect.Goals as goal
 use Rattle.site.specs.Sites.{Leads, begun, fault_of, seen, with_readers}
@@ -23,7 +22,7 @@ returns g c =
     record {
       answer = ap (λ z. fault_of (Some z)) (sym c.in_ok-collected.was ∙ s.answer) ∙ ap (λ o. fault_of (option_map (λ y. take_answer y.reader.inbox.records) o)) e.reader;
       steps = λ v st. stands_collected g.F.Format _ _ v st refl refl a refl
-          (subst (λ k. Changes ShowsReader (map kept l) (map kept k) (change a collected)) (sym (c.get_mut.follows.holds w)) (lent_changed a l c.in-Some.station.now w collected (sym e.value) s.shown));
+          (lent_changed a l _ c.in-Some.station.now w collected e.value (c.get_mut.follows.holds w) s.shown);
     }
 
 pub returns-in_err-collected : goal.returns-in_err-collected
@@ -41,5 +40,5 @@ returns-in_err-collected g c =
     record {
       answer = is ∙ ap (λ z. fault_of (Some z)) (sym c.in_err-collected.was ∙ s.answer) ∙ ap (λ o. fault_of (option_map (λ y. take_answer y.reader.inbox.records) o)) e.reader;
       steps = subst (λ z. Leads g.F.Format (is_made z) m m' (λ v. collects a)) (sym is) (λ v st. stands_collected g.F.Format m m' v st refl refl a refl
-          (subst (λ k. Changes ShowsReader (map kept l) (map kept k) (change a collected)) (sym (c.get_mut.follows.holds w)) (lent_changed a l c.in-Some.station.now w collected (sym e.value) s.shown)));
+          (lent_changed a l _ c.in-Some.station.now w collected e.value (c.get_mut.follows.holds w) s.shown));
     }

@@ -62,8 +62,8 @@ returns g c =
       told_so = ap Some s.answer ∙ ap (option_map (λ y. cond z (Err Memory) (told (heard_answer F (turn_of F brief burst y.reader))))) e.reader;
       kept_so = subst (λ o. MatchOption o (new ≡ old) (λ y. new ≡ cond z old (record_after (mark_heard (turn_of F brief burst y.reader)) y.reader.out old))) e.reader s.kept;
       written_so = subst (λ o. MatchOption o (b₁ ≡ b₀) (λ y. b₁ ≡ cond z b₀ (heard_buffer F (turn_of F brief burst y.reader) b₀))) e.reader s.written;
-      shown_so = subst (λ k. Changes ShowsReader (map kept l) (map kept k) (change a g')) (sym became) (lent_changed a l x w g' (sym e.value) s.shown);
-      unmade_so = λ unmade. ap (map kept) became ∙ lent_unmade a l x w z _ _ (sym e.value) s.moved s.noted unmade;
+      shown_so = lent_changed a l _ x w g' e.value became s.shown;
+      unmade_so = λ unmade. lent_unmade a l _ x w e.value became z _ _ s.moved s.noted unmade;
       answered_so = answered_filled a (place + 1) (suc place) k ho c.in_ok-buffer.buffer.len b₁ _ (with_readers xs m₁) m' r
           next (c.hear-answer.auto.buffer ∙ c.deref_mut.ensures.len) c.answer.ensures;
     }) in

@@ -27,7 +27,7 @@ returns g c =
     let g' = λ (y : Station). cond z y (offered (offer c.args.class os y.reader) y) in
     let became = c.get_mut.follows.holds w in
     let k = offers_come g.F.Format m (seen c.settle.new.self) (readers (c.get_mut.follows.lender w)) a c.args.class os c.are_octets.ensures f c.offer-answer.result c.settle.result t.answer t.moved
-    (subst (λ k. Changes ShowsReader (map kept l) (map kept k) (change a g')) (sym became) (lent_changed a l x w g' (sym e.value) s.shown))
-    (λ unmade. ap (map kept) became ∙ lent_unmade a l x w z _ _ (sym e.value) s.moved s.noted unmade)
+    (lent_changed a l _ x w g' e.value became s.shown)
+    (λ unmade. lent_unmade a l _ x w e.value became z _ _ s.moved s.noted unmade)
     (ap Some s.answer ∙ ap (option_map (λ y. cond z (Err Memory) (f y))) e.reader) in
     record { answer = k.0; steps = k.1 }

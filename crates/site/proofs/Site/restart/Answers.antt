@@ -1,8 +1,6 @@
-use Rattle.std.proofs.Common.{◌≡◌, map, Some, sym, refl, ap, ◌∙◌, subst, MatchOption}
-use Rattle.account.specs.Books.{change, restarted}
+use Rattle.std.proofs.Common.{◌≡◌, Some, sym, refl, ap, ◌∙◌, subst, MatchOption}
+use Rattle.account.specs.Books.{restarted}
 use Rattle.readers.proofs.Lent.{lent_changed}
-use Rattle.readers.specs.Pairs.{Changes}
-use Rattle.readers.specs.Readers.{ShowsReader, kept}
 use Rattle.rules.specs.Reader.{marked as mark_of, record_after}
 use Rattle.rules.specs.declared.records.Mark.TheVariants.{Doubtful}
 use Rattle.site.proofs.Events.{stands_restarted}
@@ -24,5 +22,5 @@ returns g c =
       answer = ap (λ z. always (Some z)) s.answer ∙ ap (λ o. always (option_map (λ y. mark_of Doubtful y.reader.out) o)) e.reader;
       kept = subst (λ o. MatchOption o (new ≡ old) (λ y. new ≡ record_after (mark_of Doubtful y.reader.out) y.reader.out old)) e.reader s.kept;
       steps = λ v st. stands_restarted g.F.Format _ _ v st refl refl a refl
-          (subst (λ k. Changes ShowsReader (map kept l) (map kept k) (change a restarted)) (sym (c.get_mut.follows.holds w)) (lent_changed a l x w restarted (sym e.value) s.shown));
+          (lent_changed a l _ x w restarted e.value (c.get_mut.follows.holds w) s.shown);
     }
