@@ -5,8 +5,10 @@
 mod calls;
 mod reading;
 
+ghost use Rattle.account.specs.Books.{by_class};
 ghost use Rattle.books.specs.Ready.{Ready};
 ghost use Rattle.books.specs.Seen.{arrives, ended, enters, handed, marked, nothing_seen, offered, seen, sent, with_newest};
+ghost use Rattle.std.specs.Borrow.{sem};
 ghost use Rattle.std.specs.Prelude.{◌≡◌, true, is_ok, if◌then◌else◌};
 
 use account::{OfferState, SendState};
@@ -28,6 +30,8 @@ pub struct Books {
 }
 
 impl Books {
+    ghost use Rattle.books.specs.Lending.{lends_waiting};
+
     pub fn new(heap: Global) -> Books
         ensures { seen result ≡ nothing_seen }
     {
@@ -101,23 +105,27 @@ impl Books {
     {
         self.offers.reserve(1)?;
         let number = self.offers.len() + 1;
-        match class {
-            Class::First => self.waiting1.push_back(number)?,
-            Class::Second => self.waiting2.push_back(number)?,
-        }
+        self.waiting(class).push_back(number)?;
         self.offers.push_reserved(OfferState::Waiting);
         Ok(())
+    }
+
+    // The numbers of the offers of a class that wait.
+    fn waiting(&mut self, class: Class) -> &mut VecDeque<usize>
+        ensures* writes_back { sem 𝓛 (lends_waiting self.entry class result) }
+        ensures value { result.now ≡ by_class class self.old.waiting1 self.old.waiting2 }
+    {
+        match class {
+            Class::First => &mut self.waiting1,
+            Class::Second => &mut self.waiting2,
+        }
     }
 
     // The oldest offer of a class that waits is handed out.
     fn hand_out(&mut self, class: Class)
         ensures { seen self.new ≡ handed class (seen self.old) }
     {
-        let oldest = match class {
-            Class::First => self.waiting1.pop_front(),
-            Class::Second => self.waiting2.pop_front(),
-        };
-        self.newest = oldest.unwrap_or(0);
+        self.newest = self.waiting(class).pop_front().unwrap_or(0);
         self.set_newest(OfferState::Out);
     }
 
