@@ -24,7 +24,7 @@ pub struct Books {
     offers: Vec<OfferState>,
     waiting1: VecDeque<usize>,
     waiting2: VecDeque<usize>,
-    // the number of the offer that was handed out last, 0 if none was
+    // the number of the offer that was handed out last, 0 if none was, as it is counted in what the books show
     newest: usize,
     arrived: Vec<usize>,
 }
@@ -46,7 +46,8 @@ impl Books {
         }
     }
 
-    // Room for one more entry in every book.
+    // Room for one more entry in every book. No value stands for that room: it would borrow the site, whose calls of the
+    // library come between the room and the entry.
     pub fn reserve(&mut self) -> Result<(), AllocError>
         ensures kept { seen self.new ≡ seen self.old }
         ensures ready { is_ok result ≡ true → Ready self.new }
