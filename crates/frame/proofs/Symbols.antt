@@ -1,7 +1,7 @@
 -- Buffers as octets are put into them, each as the symbol that f makes of it.
-use Rattle.std.proofs.Common.{◌≡◌, ℕ, ◌+◌, ◌<◌, ◌≤◌, List, [], ◌∷◌, ◌++◌, map, length, length-append, get_or, take, drop, set, sym, ap, ◌∙◌, ap₂, arith}
-use Rattle.frame.specs.Writing.{encoded_at}
-use Rattle.std.proofs.lemmas.List.{append_assoc, drop_at, drop-drop, drop_more, length-map, length-take-le, map-append, map_more, set_at, take_at}
+use Rattle.std.proofs.Common.{◌≡◌, ℕ, ◌+◌, ◌-◌, ◌<◌, ◌≤◌, List, [], ◌∷◌, ◌++◌, map, length, length-append, get_or, take, drop, set, sym, ap, ◌∙◌, ap₂, arith}
+use Rattle.frame.specs.Writing.{encoded_at, fitting}
+use Rattle.std.proofs.lemmas.List.{append_assoc, drop_at, drop-drop, drop_more, length-map, length-take-le, map-append, map_more, set_at, take_all, take_at}
 
 -- one more symbol, made of its octet by f
 pub encode_more :
@@ -43,3 +43,14 @@ encoded_next f xs ys e n k h is =
     ap₂ (λ x z. x ++ (my ++ z)) front back ∙
     append_assoc (take n e) mx (my ++ drop end e) ∙
     ap (λ z. take n e ++ z) (sym (append_assoc mx my (drop end e)) ∙ ap₂ (λ z j. z ++ drop j e) (sym (map-append f xs ys)) whole)
+
+-- octets for which there is room are put in whole
+pub put_whole :
+    (f : ℕ → ℕ) (place r : ℕ) (os e l : List ℕ) →
+    place + length os ≤ length e →
+    r ≡ place + length (fitting place os e) →
+    l ≡ encoded_at f place (fitting place os e) e →
+    (r ≡ place + length os) × (l ≡ encoded_at f place os e)
+put_whole f place r os e l room end is =
+    let whole : fitting place os e ≡ os = take_all (length e - place) os (omega arith) in
+    (end ∙ ap (λ z. place + length z) whole, is ∙ ap (λ z. encoded_at f place z e) whole)

@@ -1,5 +1,5 @@
 -- What a writer answers, and what it leaves in the buffer.
-use Rattle.std.specs.Prelude.{ℕ, ◌+◌, Bool, true, cond, ◌&&◌, List, ◌++◌, map, length, take, drop, Ok, Err, Result, nat_le, nat_lt}
+use Rattle.std.specs.Prelude.{ℕ, ◌+◌, ◌-◌, Bool, true, cond, ◌&&◌, List, ◌++◌, map, length, take, drop, Ok, Err, Result, nat_le, nat_lt}
 use Rattle.fault.specs.Causes.{fault}
 use Rattle.fault.specs.declared.Cause.TheVariants.{BadLength, ShortBuffer}
 use Rattle.fault.specs.declared.Fault.{Fault}
@@ -22,6 +22,10 @@ write_answer longest frame c buffer =
 abbrev pub buffer_written : ℕ → List ℕ → Content → List ℕ → List ℕ
 buffer_written longest frame c buffer =
     cond (nat_lt (length buffer) longest) buffer (cond (proper c) (frame ++ drop (length frame) buffer) buffer)
+
+-- as many of the octets as a buffer has room for from a place on
+abbrev pub fitting : ℕ → List ℕ → List ℕ → List ℕ
+fitting place os buffer = take (length buffer - place) os
 
 -- a buffer after the symbols of some octets were put into it from a place on
 abbrev pub encoded_at : (ℕ → ℕ) → ℕ → List ℕ → List ℕ → List ℕ

@@ -10,7 +10,7 @@ ghost use Rattle.fault.specs.declared.Fault.{Fault};
 ghost use Rattle.frame.specs.Contents.{Meaning, content_read, filled_record, meaning, padded};
 ghost use Rattle.frame.specs.Laws.{GuardLaw, SizeLaw, VerdictLaw};
 ghost use Rattle.frame.specs.Verdicts.{line_checked, must};
-ghost use Rattle.frame.specs.Writing.{buffer_written, encoded_at, write_answer};
+ghost use Rattle.frame.specs.Writing.{buffer_written, encoded_at, fitting, write_answer};
 
 pub use control::Control;
 use fault::{Cause, Fault};
@@ -135,13 +135,15 @@ pub fn open_burst<A: Alphabet, const LONGEST: usize>(burst: &[u16]) -> Result<[u
     Ok(octets)
 }
 
-// The symbols of some octets, put into the buffer from a place on; answers the place after them.
+// The symbols of as many of the octets as there is room for, put into the buffer from a place on; answers the place
+// after them.
 pub fn encode_at<A: Alphabet>(buffer: &mut [u16], place: usize, octets: &[u8]) -> usize
-    requires { place + length octets.now ≤ length buffer.old }
-    ensures end { result ≡ place + length octets.now }
-    ensures encoded { buffer.new ≡ encoded_at A.symbol_for place octets.now buffer.old }
+    ensures end { result ≡ place + length (fitting place octets.now buffer.old) }
+    ensures encoded { buffer.new ≡ encoded_at A.symbol_for place (fitting place octets.now buffer.old) buffer.old }
 {
-    // By index, as above.
+    let room = buffer.len().saturating_sub(place);
+    let octets = &octets[..room.min(octets.len())];
+    // By index: the proof does not follow elements that a loop is lent.
     for (i, octet) in octets.iter().enumerate() {
         buffer[place + i] = A::encode(*octet);
     }
