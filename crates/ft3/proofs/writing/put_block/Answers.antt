@@ -1,4 +1,4 @@
-use Rattle.std.proofs.Common.{◌≡◌, ◌+◌, ◌%◌, [], ◌∷◌, ◌++◌, length, ap, ◌∙◌, ap₂, arith}
+use Rattle.std.proofs.Common.{◌≡◌, ◌%◌, [], ◌∷◌, ◌++◌, length, ap, ◌∙◌, ap₂, arith}
 use Rattle.crc.specs.Check.{sealed}
 use Rattle.frame.proofs.Symbols.{encoded_next, put_whole}
 use Rattle.frame.specs.Writing.{encoded_at}
