@@ -1,5 +1,5 @@
 -- The account of a reader, wherever in a lawful run the site stands.
-use Rattle.std.proofs.Common.{◌≡◌, ℕ, Bool, true, false, cond, eqb, List, [], ◌∷◌, Some, None, Option, sym, refl, ap, ◌∙◌, subst}
+use Rattle.std.proofs.Common.{◌≡◌, ℕ, Bool, true, false, Some, None, Option, subst}
 use Rattle.account.specs.Account.{Account, TwoEndsOver}
 use Rattle.account.specs.Books.{Station, found}
 use Rattle.account.specs.Line.{Run, World, begin, new_world}

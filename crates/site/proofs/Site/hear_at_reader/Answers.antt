@@ -1,12 +1,11 @@
-use Rattle.std.proofs.Common.{◌≡◌, suc, ◌+◌, ◌-◌, true, cond, ltb, map, length, Some, Err, vec_items, sym, ap, ◌∙◌, subst, arith, MatchOption}
-use Rattle.account.specs.Books.{Station, change}
+use Rattle.std.proofs.Common.{◌≡◌, suc, ◌+◌, ◌-◌, true, cond, ltb, length, Some, Err, vec_items, sym, ap, ◌∙◌, subst, arith, MatchOption}
+use Rattle.account.specs.Books.{Station}
 use Rattle.account.specs.Line.{reader_hears}
 use Rattle.damage.specs.Damages.{hearing}
 use Rattle.line.specs.Ways.{on_way, sent_at}
 use Rattle.reader.specs.Hearing.{heard_answer, heard_buffer}
 use Rattle.readers.proofs.Lent.{lent_changed, lent_unmade}
-use Rattle.readers.specs.Pairs.{Changes}
-use Rattle.readers.specs.Readers.{ShowsReader, at, kept, place_of, readers}
+use Rattle.readers.specs.Readers.{at, place_of, readers}
 use Rattle.rules.specs.Reader.{hear, mark_heard, record_after}
 use Rattle.rules.specs.Telegrams.{telegram_read}
 use Rattle.site.proofs.Placed.{placed}

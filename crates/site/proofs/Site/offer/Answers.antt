@@ -1,8 +1,7 @@
-use Rattle.std.proofs.Common.{cond, map, Some, Err, sym, ap, ◌∙◌, subst}
-use Rattle.account.specs.Books.{Station, change, offered}
+use Rattle.std.proofs.Common.{cond, Some, Err, ap, ◌∙◌}
+use Rattle.account.specs.Books.{Station, offered}
 use Rattle.readers.proofs.Lent.{lent_changed, lent_unmade}
-use Rattle.readers.specs.Pairs.{Changes}
-use Rattle.readers.specs.Readers.{Kept, ShowsReader, kept, readers}
+use Rattle.readers.specs.Readers.{Kept, readers}
 use Rattle.rules.specs.Reader.{offer, offer_answer}
 use Rattle.site.proofs.Site.offer.Goals as goal
 use Rattle.site.proofs.Steps.{offers_come}

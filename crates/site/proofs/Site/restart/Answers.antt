@@ -1,4 +1,4 @@
-use Rattle.std.proofs.Common.{◌≡◌, Some, sym, refl, ap, ◌∙◌, subst, MatchOption}
+use Rattle.std.proofs.Common.{◌≡◌, Some, refl, ap, ◌∙◌, subst, MatchOption}
 use Rattle.account.specs.Books.{restarted}
 use Rattle.readers.proofs.Lent.{lent_changed}
 use Rattle.rules.specs.Reader.{marked as mark_of, record_after}
