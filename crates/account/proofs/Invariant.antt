@@ -12,7 +12,7 @@ use Rattle.account.specs.Books as books
 use Rattle.account.specs.Books.{Station, asked, change, ended, fetched, found, turned}
 use Rattle.account.specs.Ledger.{none_open, none_out, nothing}
 use Rattle.account.specs.Line as line
-use Rattle.account.specs.Line.{Burst, Event, Fitting, HeardAs, Limit, OnWay, Run, Silent, World, answered, begin, concluded, gone, hears_at, leaves, new_station, new_world, requested, step, then, timed}
+use Rattle.account.specs.Line.{Burst, Event, HeardAs, Limit, OnWay, Run, Silent, World, answered, begin, concluded, gone, hears_at, leaves, new_station, new_world, requested, step, then, timed}
 use Rattle.fault.specs.declared.Fault.{Fault}
 use Rattle.frame.specs.Contents.{Meaning}
 use Rattle.frame.specs.Laws.{GuardLaw, VerdictLaw}
@@ -30,6 +30,7 @@ use Rattle.rules.specs.declared.records.Class.TheVariants.{First, Second}
 use Rattle.rules.specs.declared.records.Ending.{Ending}
 use Rattle.rules.specs.declared.records.Ending.TheVariants.{Doubted}
 use Rattle.rules.specs.declared.records.Exchange.{Exchange}
+use Rattle.rules.specs.declared.records.ReaderPlan.{ReaderPlan}
 use Rattle.rules.specs.declared.records.Report.{Report}
 use Rattle.rules.specs.declared.records.Request.{Request}
 use Rattle.rules.specs.declared.telegram.Telegram.{Telegram}
@@ -50,15 +51,15 @@ all_unset zero i = refl
 all_unset (suc n) zero = refl
 all_unset (suc n) (suc i) = all_unset n i
 
-new_apart : (f : Fitting) (l : List Fitting) → AllByRecursion (λ g. eqb g.address f.address ≡ false) l → AllByRecursion (λ t. eqb (address_of t) f.address ≡ false) (map new_station l)
+new_apart : (f : ReaderPlan) (l : List ReaderPlan) → AllByRecursion (λ g. eqb g.address f.address ≡ false) l → AllByRecursion (λ t. eqb (address_of t) f.address ≡ false) (map new_station l)
 new_apart f [] h = tt
 new_apart f (g ∷ l) h = (h.0, new_apart f l h.1)
 
-new_distinct : (l : List Fitting) → Apart l → Distinct (map new_station l)
+new_distinct : (l : List ReaderPlan) → Apart l → Distinct (map new_station l)
 new_distinct [] h = tt
 new_distinct (f ∷ l) h = (new_apart f l h.1, new_distinct l h.2)
 
-new_stands : (l : List Fitting) → Apart l → AllByRecursion (Stands (replicate 32 unset_link) None nowhere []) (map new_station l)
+new_stands : (l : List ReaderPlan) → Apart l → AllByRecursion (Stands (replicate 32 unset_link) None nowhere []) (map new_station l)
 new_stands [] h = tt
 new_stands (f ∷ l) h = (
   record {
@@ -76,7 +77,7 @@ new_stands (f ∷ l) h = (
   new_stands l h.2,
 )
 
-pub inv_new : (r i j : ℕ) (l : List Fitting) → Apart l → Inv (new_world r i j l)
+pub inv_new : (r i j : ℕ) (l : List ReaderPlan) → Apart l → Inv (new_world r i j l)
 inv_new r i j l h = record { state = record { live = nowhere; each = new_stands l h; back = refl; known = tt }; table = refl; apart = new_distinct l h }
 
 -- ## a call at a reader that leaves the line alone

@@ -5,9 +5,10 @@ use Rattle.account.proofs.Stations.{Distinct, address_of, own, turned_round}
 use Rattle.account.proofs.Valid.{new_valid}
 use Rattle.account.specs.Account.{Apart}
 use Rattle.account.specs.Books.{Station, change, found}
-use Rattle.account.specs.Line.{Fitting, Run, World, begin, new_world, then}
+use Rattle.account.specs.Line.{Run, World, begin, new_world, then}
 use Rattle.frame.specs.Laws.{GuardLaw, VerdictLaw}
 use Rattle.frame.specs.declared.Format.{Ghosts}
+use Rattle.rules.specs.declared.records.ReaderPlan.{ReaderPlan}
 use Rattle.std.specs.List.{AllByRecursion}
 
 -- what holds of each holds of the one at a place
@@ -49,6 +50,6 @@ module _ {X : Type 0} (F : Ghosts X) where
   run_on r (then q e lim) = then (run_on r q) e lim
 
   -- the addresses of a line stay apart
-  pub stay_apart : VerdictLaw F.frame F.verdict → GuardLaw F.width F.guard F.frame → (r i j : ℕ) (readers : List Fitting) → Apart readers → (w : World)
+  pub stay_apart : VerdictLaw F.frame F.verdict → GuardLaw F.width F.guard F.frame → (r i j : ℕ) (readers : List ReaderPlan) → Apart readers → (w : World)
       → Run F (new_world r i j readers) w → Distinct w.stations
   stay_apart exact guarded r i j readers apart w run = (inv_run F exact guarded run (new_valid r i j readers apart) (inv_new r i j readers apart)).apart

@@ -13,7 +13,7 @@ use Rattle.account.specs.Books as books
 use Rattle.account.specs.Books.{Station, arrives, change, ended, ends_send, fetched, found, marks, oldest_number, turned, waiting}
 use Rattle.account.specs.Ledger.{Numbered}
 use Rattle.account.specs.Line as line
-use Rattle.account.specs.Line.{Event, Fitting, Limit, Run, World, answered, begin, concluded, leaves, new_station, new_world, requested, step, then, timed}
+use Rattle.account.specs.Line.{Event, Limit, Run, World, answered, begin, concluded, leaves, new_station, new_world, requested, step, then, timed}
 use Rattle.account.specs.declared.books.HandOut.{HandOut}
 use Rattle.account.specs.declared.books.Item.{Item}
 use Rattle.account.specs.declared.books.Sending.{Sending}
@@ -37,6 +37,7 @@ use Rattle.rules.specs.declared.records.Exchange.{Exchange}
 use Rattle.rules.specs.declared.records.Flags.{Flags}
 use Rattle.rules.specs.declared.records.Mark.{Mark}
 use Rattle.rules.specs.declared.records.Mark.TheVariants.{Doubtful}
+use Rattle.rules.specs.declared.records.ReaderPlan.{ReaderPlan}
 use Rattle.rules.specs.declared.records.Request.{Request}
 use Rattle.rules.specs.declared.records.Request.TheVariants.{Reset, Status, Send, Poll}
 use Rattle.rules.specs.declared.telegram.Telegram.{Telegram}
@@ -380,10 +381,10 @@ module _ {X : Type 0} (F : Ghosts X) where
   books_run begin h b = b
   books_run (then r e lim) h b = books_step e _ (room_run F r h) lim (books_run r h b)
 
-new_fine : (l : List Fitting) → AllByRecursion (Fine []) (map new_station l)
+new_fine : (l : List ReaderPlan) → AllByRecursion (Fine []) (map new_station l)
 new_fine [] = tt
 new_fine (f ∷ l) =
     ((record { sent = tt; inbox = refl; offered = tt; each = elim [ First ↦ refl | Second ↦ refl ]; waits = elim [ First ↦ refl | Second ↦ refl ] }, refl), new_fine l)
 
-pub books_new : (r i j : ℕ) (l : List Fitting) → Books (new_world r i j l)
+pub books_new : (r i j : ℕ) (l : List ReaderPlan) → Books (new_world r i j l)
 books_new r i j l = record { all = new_fine l }

@@ -7,7 +7,7 @@ use Rattle.account.specs.Account.{Apart}
 use Rattle.account.specs.Books.{Station, fetched, found, turned}
 use Rattle.account.specs.Books as books
 use Rattle.account.specs.Line as line
-use Rattle.account.specs.Line.{Burst, Event, Fitting, Limit, Run, World, answered, begin, concluded, gone, leaves, new_station, new_world, requested, step, then, timed}
+use Rattle.account.specs.Line.{Burst, Event, Limit, Run, World, answered, begin, concluded, gone, leaves, new_station, new_world, requested, step, then, timed}
 use Rattle.fault.specs.declared.Fault.{Fault}
 use Rattle.frame.specs.Contents.{Valid, padded}
 use Rattle.frame.specs.Controls.{primary_octet, secondary_octet}
@@ -27,6 +27,7 @@ use Rattle.rules.specs.declared.records.Class.{Class}
 use Rattle.rules.specs.declared.records.Class.TheVariants.{First, Second}
 use Rattle.rules.specs.declared.records.Ending.TheVariants.{Doubted}
 use Rattle.rules.specs.declared.records.Exchange.{Exchange}
+use Rattle.rules.specs.declared.records.ReaderPlan.{ReaderPlan}
 use Rattle.rules.specs.declared.records.Reply.{Reply}
 use Rattle.rules.specs.declared.records.Reply.TheVariants as reply
 use Rattle.rules.specs.declared.records.Request.{Request}
@@ -294,9 +295,9 @@ module _ {X : Type 0} (F : Ghosts X) where
   valid_run begin ok = ok
   valid_run (then r e lim) ok = valid_step e _ lim (valid_run r ok)
 
-new_whole : (l : List Fitting) → Apart l → AllByRecursion StationWhole (map new_station l)
+new_whole : (l : List ReaderPlan) → Apart l → AllByRecursion StationWhole (map new_station l)
 new_whole [] h = tt
 new_whole (f ∷ l) h = (record { known = h.0; class1 = tt; class2 = tt; stored = tt }, new_whole l h.2)
 
-pub new_valid : (r i j : ℕ) (l : List Fitting) → Apart l → ValidWorld (new_world r i j l)
+pub new_valid : (r i j : ℕ) (l : List ReaderPlan) → Apart l → ValidWorld (new_world r i j l)
 new_valid r i j l h = record { stations = new_whole l h; exchange = tt; bursts = tt }

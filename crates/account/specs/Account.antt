@@ -2,7 +2,7 @@
 use Rattle.std.specs.Prelude.{◌≡◌, ℕ, Bool, true, false, cond, ◌⊎◌, List, [], ◌∷◌, ◌++◌, map, reverse, Some, None, Option, ◌==◌}
 use Rattle.account.specs.Books.{Station, found, offer_state, waiting}
 use Rattle.account.specs.Ledger.{HandOutsCome, Handed, Numbered, Requested, SendsCome}
-use Rattle.account.specs.Line.{Fitting, Run, World, new_world}
+use Rattle.account.specs.Line.{Run, World, new_world}
 use Rattle.account.specs.declared.books.HandOut.{HandOut}
 use Rattle.account.specs.declared.books.Item.{Item}
 use Rattle.account.specs.declared.books.Offer.{Offer}
@@ -19,6 +19,7 @@ use Rattle.rules.specs.declared.records.Arrival.{Arrival}
 use Rattle.rules.specs.declared.records.Class.{Class}
 use Rattle.rules.specs.declared.records.Class.TheVariants.{First, Second}
 use Rattle.rules.specs.declared.records.Exchange.{Exchange}
+use Rattle.rules.specs.declared.records.ReaderPlan.{ReaderPlan}
 use Rattle.rules.specs.declared.records.Request.{Request}
 use Rattle.rules.specs.declared.records.Request.TheVariants.{Reset, Status, Send, Poll}
 use Rattle.std.specs.List.{AllByRecursion}
@@ -105,7 +106,7 @@ pub record NothingMoved (s t : Station) : Type 0 where
   pub handed : offers_handed t.up.handed ≡ offers_handed s.up.handed
 
 -- no two readers share an address, and each is 1 to 32
-abbrev pub Apart : List Fitting → Type 0
+abbrev pub Apart : List ReaderPlan → Type 0
 Apart [] = Unit {0}
 Apart (f ∷ l) = (within 1 32 f.address ≡ true) × AllByRecursion (λ g. (g.address == f.address) ≡ false) l × Apart l
 
@@ -114,7 +115,7 @@ Apart (f ∷ l) = (within 1 32 f.address ≡ true) × AllByRecursion (λ g. (g.a
 -- unset at either end lets nothing move.
 abbrev pub TwoEndsOver : {X : Type 0} → Ghosts X → Type 0
 TwoEndsOver F =
-    (repetitions arrivals reports : ℕ) (readers : List Fitting) → Apart readers →
+    (repetitions arrivals reports : ℕ) (readers : List ReaderPlan) → Apart readers →
     (w : World) → Run F (new_world repetitions arrivals reports readers) w →
     Roomy w.concentrator ×
     ((a : ℕ) (s : Station) → found a w.stations ≡ Some s →

@@ -10,6 +10,7 @@ use Rattle.rules.specs.Concentrator.{Concentrator, Asking, for_reset, for_status
 use Rattle.rules.specs.Reader as rd
 use Rattle.rules.specs.Reader.{Turn}
 use Rattle.rules.specs.Telegrams.{carried, telegram_read}
+use Rattle.rules.specs.declared.records.ReaderPlan.{ReaderPlan}
 use Rattle.rules.specs.declared.telegram.Telegram.{Telegram}
 use Rattle.std.specs.List.{AllByRecursion}
 
@@ -187,21 +188,14 @@ module _ {X : Type 0} (F : Ghosts X) where
 
 -- ## the beginning
 
--- A reader as it is fitted: its address and the slots of its two classes and its inbox.
-pub record Fitting : Type 0 where
-  pub address : ℕ
-  pub slots1 : ℕ
-  pub slots2 : ℕ
-  pub slots : ℕ
-
 -- a new reader, with empty books
-abbrev pub new_station : Fitting → Station
+abbrev pub new_station : ReaderPlan → Station
 new_station f = record {
-  reader = rd.new_reader f.address f.slots1 f.slots2 f.slots;
+  reader = rd.new_reader f.address f.class1 f.class2 f.inbox;
   down = record { sends = []; entered = []; collected = []; resets = 0 };
   up = record { offered = []; waiting1 = []; waiting2 = []; handed = []; arrived = []; fetched = [] };
 }
 
 -- a new line: repetitions, slots for arrivals and for reports, and the readers; no burst yet
-abbrev pub new_world : ℕ → ℕ → ℕ → List Fitting → World
+abbrev pub new_world : ℕ → ℕ → ℕ → List ReaderPlan → World
 new_world r arrivals reports readers = record { concentrator = co.new_concentrator r arrivals reports; stations = map new_station readers; bursts = [] }

@@ -1,7 +1,7 @@
 -- That a run can bring something about: over every format a send comes through, and so does an offer.
 use Rattle.std.specs.Prelude.{◌≡◌, ℕ, List, [], ◌∷◌, Some, None, Option}
 use Rattle.account.specs.Books.{Station, found}
-use Rattle.account.specs.Line.{Fitting, Run, World, new_world}
+use Rattle.account.specs.Line.{Run, World, new_world}
 use Rattle.account.specs.declared.books.Item.{Item}
 use Rattle.account.specs.declared.books.OfferState.TheVariants.{Marked}
 use Rattle.account.specs.declared.books.SendState.TheVariants.{Ended}
@@ -10,6 +10,7 @@ use Rattle.rules.specs.Messages.{message_of}
 use Rattle.rules.specs.declared.records.Class.TheVariants.{First}
 use Rattle.rules.specs.declared.records.Mark.TheVariants.{Settled}
 use Rattle.rules.specs.declared.records.Outcome.TheVariants.{Confirmed}
+use Rattle.rules.specs.declared.records.ReaderPlan.{ReaderPlan}
 
 -- item 1, a message of one octet
 abbrev pub first_item : ℕ → Item
@@ -28,8 +29,8 @@ Comes None = ⊥
 Comes (Some s) = CameThrough s
 
 -- one reader, of address 5
-abbrev pub one_reader : List Fitting
-one_reader = record { address = 5; slots1 = 2; slots2 = 2; slots = 2 } ∷ []
+abbrev pub one_reader : List ReaderPlan
+one_reader = record { address = 5; class1 = 2; class2 = 2; inbox = 2 } ∷ []
 
 -- a run of a line with that reader ends so
 pub record ComesThrough {X : Type 0} (F : Ghosts X) : Type 0 where

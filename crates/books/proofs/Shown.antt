@@ -3,7 +3,7 @@ use Rattle.std.proofs.Common.{◌≡◌, ℕ, suc, ◌+◌, ◌-◌, cond, eqb, 
 use mathlib.Core.List.{reverse-cons}
 use lib.Dec.{eqb-zero-suc}
 use Rattle.account.specs.Books.{Down, Up, Station, arrives as account_arrives, asked, by_class, collected, ended as account_ended, ended_down, ends_send, enters as account_enters, hands, marks, newest_hand_out, newest_sent, offered as account_offered, oldest_number, restarted, turned, waiting as account_waiting, with_handed}
-use Rattle.account.specs.Line.{Fitting, new_station}
+use Rattle.account.specs.Line.{new_station}
 use Rattle.account.specs.declared.books.HandOut.{HandOut}
 use Rattle.account.specs.declared.books.Item.{Item}
 use Rattle.account.specs.declared.books.OfferState.{OfferState}
@@ -26,6 +26,7 @@ use Rattle.rules.specs.declared.records.Ending.{Ending}
 use Rattle.rules.specs.declared.records.Ending.TheVariants as ending
 use Rattle.rules.specs.declared.records.Mark.{Mark}
 use Rattle.rules.specs.declared.records.Mark.TheVariants.{Doubtful}
+use Rattle.rules.specs.declared.records.ReaderPlan.{ReaderPlan}
 use Rattle.rules.specs.declared.records.Request.{Request}
 use Rattle.rules.specs.declared.records.Request.TheVariants.{Reset, Status, Send, Poll}
 use Rattle.std.proofs.ByRecursion.{All-push, All-weaker}
@@ -39,7 +40,7 @@ use Rattle.std.specs.List.{AllByRecursion}
 pushed : {A B : Type 0} (f : A → B) (x : A) (l : List A) (v : List B) → v ≡ reverse (map f l) → v ++ (f x ∷ []) ≡ reverse (map f (x ∷ l))
 pushed f x l v e = ap (λ k. k ++ (f x ∷ [])) e ∙ sym (reverse-cons (f x) (map f l))
 
-pub shows_new : (f : Fitting) → Shows nothing_seen (new_station f)
+pub shows_new : (f : ReaderPlan) → Shows nothing_seen (new_station f)
 shows_new f = (
   record { sends = refl; newest = refl; entered = refl },
   record { accepted = refl; offers = λ n. refl; waiting1 = refl; waiting2 = refl; newest = refl; arrived = refl; given1 = tt; given2 = tt; given = omega arith },

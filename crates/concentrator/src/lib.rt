@@ -20,9 +20,7 @@ ghost use Rattle.std.specs.Prelude.{◌≡◌, ◌≤◌, not, length, Ok, Match
 use account::two_ends_hold;
 use fault::{Cause, Fault};
 use frame::Format;
-use links::{
-    LinkTable, NO_FLAGS, STATIONS, flags, is_ready, link_after, link_asked, transmission, verdict,
-};
+use links::{LinkTable, STATIONS, flags, is_ready, link_after, link_asked, transmission, verdict};
 use queue::{Queue, Slots, check_slots};
 use rules::link::Link;
 use rules::message::Message;
@@ -163,8 +161,8 @@ impl<P: Slots<Item = Arrival>, Q: Slots<Item = Report>, F: Format> Concentrator<
         }
         let _ = self.reports.put(Report {
             station,
-            service: exchange.request.service(),
-            outcome: ending.outcome(),
+            service: exchange.request.into(),
+            outcome: ending.into(),
             flags,
             transmissions: exchange.transmissions,
         });
@@ -221,7 +219,7 @@ impl<P: Slots<Item = Arrival>, Q: Slots<Item = Report>, F: Format> Concentrator<
     {
         check_buffer::<F>(buffer)?;
         check_station(station)?;
-        let Some(class) = Class::of(class) else {
+        let Ok(class) = Class::try_from(class) else {
             return Err(Fault::of(Cause::BadClass));
         };
         self.open(station, Request::Poll(class), buffer)
@@ -242,7 +240,7 @@ impl<P: Slots<Item = Arrival>, Q: Slots<Item = Report>, F: Format> Concentrator<
             return Err(Fault::of(Cause::NoExchange));
         };
         if exchange.transmissions > u16::from(self.repetitions) {
-            self.close(exchange, Ending::Doubted, NO_FLAGS);
+            self.close(exchange, Ending::Doubted, Flags::default());
             return Ok(0);
         }
         exchange.transmissions += 1;
@@ -265,7 +263,7 @@ impl<P: Slots<Item = Arrival>, Q: Slots<Item = Report>, F: Format> Concentrator<
         };
         let ending = verdict(&exchange, &telegram)?;
         self.close(exchange, ending, flags(&telegram));
-        Ok(ending.outcome())
+        Ok(ending.into())
     }
 
     // Takes the oldest report. Refused with 22.

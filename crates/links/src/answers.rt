@@ -65,6 +65,7 @@ fn check_sender(control: Control, address: u8, station: u8) -> Result<(), Fault>
 }
 
 // How an answer ends the exchange, or why it is none to it.
+#[tactic(auto, unfolding(rules::specs::Concentrator::verdict))]
 pub fn verdict(exchange: &Exchange, telegram: &Telegram) -> Result<Ending, Fault>
     ensures { result ≡ verdict exchange.now telegram.now }
 {
@@ -72,7 +73,7 @@ pub fn verdict(exchange: &Exchange, telegram: &Telegram) -> Result<Ending, Fault
         Telegram::Single => single_ends(exchange.request),
         Telegram::Fixed { control, address } => {
             check_sender(control, address, exchange.station)?;
-            fixed_ends(Reply::of(control.code()), exchange.request)
+            fixed_ends(Reply::try_from(control.code()).ok(), exchange.request)
         }
         Telegram::Variable {
             control,
@@ -80,23 +81,21 @@ pub fn verdict(exchange: &Exchange, telegram: &Telegram) -> Result<Ending, Fault
             message,
         } => {
             check_sender(control, address, exchange.station)?;
-            variable_ends(Reply::of(control.code()), exchange.request, message)
+            variable_ends(
+                Reply::try_from(control.code()).ok(),
+                exchange.request,
+                message,
+            )
         }
     }
 }
-
-// ACD and DFC of an answer that has neither, or that never came.
-pub const NO_FLAGS: Flags = Flags {
-    acd: false,
-    dfc: false,
-};
 
 // ACD and DFC as heard.
 pub fn flags(telegram: &Telegram) -> Flags
     ensures { result ≡ flags_of telegram.now }
 {
     match *telegram {
-        Telegram::Single => NO_FLAGS,
+        Telegram::Single => Flags::default(),
         Telegram::Fixed { control, .. } | Telegram::Variable { control, .. } => Flags {
             acd: control.acd(),
             dfc: control.dfc(),
@@ -105,6 +104,7 @@ pub fn flags(telegram: &Telegram) -> Flags
 }
 
 // The link after an exchange: every answer to a send or a poll flips its bit; doubt and not served unset it.
+#[tactic(auto, unfolding(rules::specs::Concentrator::link_after))]
 pub fn link_after(request: Request, ending: Ending, link: Link) -> Link
     ensures { result ≡ link_after request ending link }
 {

@@ -6,6 +6,6 @@ mod answers;
 mod requests;
 mod table;
 
-pub use answers::{NO_FLAGS, flags, link_after, verdict};
+pub use answers::{flags, link_after, verdict};
 pub use requests::{is_ready, link_asked, transmission};
 pub use table::{LinkTable, STATIONS};

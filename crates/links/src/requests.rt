@@ -1,13 +1,10 @@
 // What a request needs and what it sends.
-ghost use Rattle.frame.specs.Controls.{primary_octet};
 ghost use Rattle.rules.specs.Concentrator.{link_asked, ready, transmission};
-ghost use Rattle.rules.specs.Functions.{function_code};
-ghost use Rattle.rules.specs.declared.telegram.Telegram.TheVariants.{Fixed};
 ghost use Rattle.std.specs.Prelude.{◌≡◌};
 
 use frame::Control;
 use rules::link::Link;
-use rules::records::{Class, Exchange, Function, Request};
+use rules::records::{Exchange, Function, Request};
 use rules::telegram::Telegram;
 
 // A send and a poll need the link set.
@@ -30,29 +27,24 @@ pub fn link_asked(request: &Request, link: Link) -> Link
     }
 }
 
-fn fixed(bit: bool, valid: bool, function: Function, address: u8) -> Telegram
-    ensures { result ≡ Fixed (record { octet = primary_octet bit valid (function_code function) }) address }
-{
-    Telegram::Fixed {
-        control: Control::primary(bit, valid, function.code()),
-        address,
-    }
-}
-
-// The frame of an exchange, the same each time that it is sent.
+// The frame of an exchange, the same each time that it is sent. A send and a poll have the frame count bit.
 pub fn transmission(exchange: &Exchange) -> Telegram
     ensures { result ≡ transmission exchange.now }
 {
-    let address = exchange.station;
-    match exchange.request {
-        Request::Reset => fixed(false, false, Function::Reset, address),
-        Request::Status => fixed(false, false, Function::Status, address),
+    let Exchange {
+        station: address,
+        request,
+        bit,
+        ..
+    } = *exchange;
+    let counted = matches!(request, Request::Send(_) | Request::Poll(_));
+    let control = Control::primary(counted && bit, counted, Function::from(request).into());
+    match request {
         Request::Send(message) => Telegram::Variable {
-            control: Control::primary(exchange.bit, true, Function::Send.code()),
+            control,
             address,
             message,
         },
-        Request::Poll(Class::First) => fixed(exchange.bit, true, Function::PollFirst, address),
-        Request::Poll(Class::Second) => fixed(exchange.bit, true, Function::PollSecond, address),
+        Request::Reset | Request::Status | Request::Poll(_) => Telegram::Fixed { control, address },
     }
 }

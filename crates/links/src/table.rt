@@ -34,22 +34,18 @@ impl LinkTable {
     pub fn get(&self, station: u8) -> Link
         ensures { result ≡ link_at self.now.records station }
     {
-        let records: &[Link] = &self.records;
-        let place = place_of(station);
-        if place >= records.len() {
-            return Link::UNSET;
-        }
-        records[place]
+        let link = self.records.get(place_of(station));
+        link.copied().unwrap_or(Link::UNSET)
     }
 
-    // Changes one record, in place.
+    // Changes one record, in place. By index: once `get_mut` has lent an element, a proof knows only the table's length.
+    #[tactic(auto, using(std::proofs::lemmas::List::set_past))]
     pub fn change(&mut self, station: u8, link: Link)
         ensures { self.new.records ≡ change_link self.old.records station link }
     {
-        let records: &mut [Link] = &mut self.records;
         let place = place_of(station);
-        if place < records.len() {
-            records[place] = link;
+        if place < self.records.len() {
+            self.records[place] = link;
         }
     }
 

@@ -1,6 +1,5 @@
 // Where the records of a queue lie: slots that a caller lends, slots on the heap, or an array.
-ghost use Rattle.std.specs.Prelude.{◌≡◌, List, length, slice_set};
-ghost use Rattle.std.specs.List.{slice_get};
+ghost use Rattle.std.specs.Prelude.{◌≡◌, List, length, slice_get, slice_set};
 
 // A row of slots, each with a record, counted from 0.
 pub trait Slots {
@@ -8,24 +7,28 @@ pub trait Slots {
 
     ghost items: { Self → List Self.Item };
 
-    fn count(&self) -> usize
-        ensures { result ≡ length (items self.now) };
-
-    // The record of a slot, or none past the last slot.
-    fn read(&self, at: usize) -> Option<Self::Item>
-        ensures { result ≡ slice_get (items self.now) at };
+    fn as_slice(&self) -> &[Self::Item]
+        ensures { result.now ≡ items self.now };
 
     // Writes one slot; past the last slot it writes nothing.
     fn write(&mut self, at: usize, x: Self::Item)
         ensures { items self.new ≡ slice_set (items self.old) at x };
+
+    fn count(&self) -> usize
+        ensures { result ≡ length (items self.now) }
+    {
+        self.as_slice().len()
+    }
+
+    // The record of a slot, or none past the last slot.
+    fn read(&self, at: usize) -> Option<Self::Item>
+        ensures { result ≡ slice_get (items self.now) at }
+    {
+        self.as_slice().get(at).copied()
+    }
 }
 
-fn read_at<T: Copy>(all: &[T], at: usize) -> Option<T>
-    ensures { result ≡ slice_get all.now at }
-{
-    if at < all.len() { Some(all[at]) } else { None }
-}
-
+#[tactic(auto, using(std::proofs::lemmas::List::set_past))]
 fn write_at<T: Copy>(all: &mut [T], at: usize, x: T)
     ensures { all.new ≡ slice_set all.old at x }
 {
@@ -40,12 +43,8 @@ impl<'a, T: Copy> Slots for &'a mut [T] {
 
     ghost items = { λ s. s.now };
 
-    fn count(&self) -> usize {
-        self.len()
-    }
-
-    fn read(&self, at: usize) -> Option<T> {
-        read_at(self, at)
+    fn as_slice(&self) -> &[T] {
+        self
     }
 
     fn write(&mut self, at: usize, x: T) {
@@ -59,18 +58,12 @@ impl<T: Copy> Slots for Vec<T> {
 
     ghost items = { λ s. s.items };
 
-    fn count(&self) -> usize {
-        self.len()
-    }
-
-    fn read(&self, at: usize) -> Option<T> {
-        read_at(self, at)
+    fn as_slice(&self) -> &[T] {
+        self
     }
 
     fn write(&mut self, at: usize, x: T) {
-        if at < self.len() {
-            self[at] = x;
-        }
+        write_at(self.as_mut_slice(), at, x);
     }
 }
 
@@ -80,19 +73,11 @@ impl<T: Copy, const N: usize> Slots for [T; N] {
 
     ghost items = { λ s. s };
 
-    fn count(&self) -> usize {
-        let all: &[T] = self;
-        all.len()
-    }
-
-    fn read(&self, at: usize) -> Option<T> {
-        read_at(self, at)
+    fn as_slice(&self) -> &[T] {
+        self
     }
 
     fn write(&mut self, at: usize, x: T) {
-        let all: &[T] = self;
-        if at < all.len() {
-            self[at] = x;
-        }
+        write_at(self.as_mut_slice(), at, x);
     }
 }

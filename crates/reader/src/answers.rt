@@ -16,7 +16,7 @@ impl<S: Slots<Item = Message>, F: Format> Reader<S, F> {
     {
         let acd = !self.class1.is_empty();
         let dfc = self.inbox.is_full();
-        Control::secondary(acd, dfc, reply.code())
+        Control::secondary(acd, dfc, reply.into())
     }
 
     pub(crate) fn says(&self, reply: Reply) -> Telegram

@@ -118,7 +118,7 @@ impl<S: Slots<Item = Message>, F: Format> Reader<S, F> {
         let fcv = control.fcv();
         let unset = !self.link.set;
         let repeated = control.fcb() != self.link.next;
-        match (Function::of(control.code()), message) {
+        match (Function::try_from(control.code()).ok(), message) {
             (None, _) => Ok(Response::still(self.says(Reply::NotImplemented))),
             (Some(Function::Reset), None) if !fcv => Ok(self.reset(marked)),
             (Some(Function::Status), None) if !fcv => Ok(Response::still(self.says(Reply::Status))),

@@ -107,10 +107,10 @@ impl<S: Slots<Item = Message>, F: Format> Reader<S, F> {
         ensures refused { OnErr result (self.new ≡ self.old) }
     {
         let message = Message::new(octets)?;
-        match Class::of(class) {
-            Some(Class::First) => self.class1.put(message),
-            Some(Class::Second) => self.class2.put(message),
-            None => Err(Fault::of(Cause::BadClass)),
+        match Class::try_from(class) {
+            Ok(Class::First) => self.class1.put(message),
+            Ok(Class::Second) => self.class2.put(message),
+            Err(_) => Err(Fault::of(Cause::BadClass)),
         }
     }
 

@@ -2,11 +2,12 @@
 use Rattle.std.specs.Prelude.{◌≡◌, ℕ, suc, Bool, false, cond, not, List, [], ◌∷◌, ◌++◌, map, Some, None, vec_items, Option, Result, ◌==◌, slice_index_or}
 use Rattle.account.specs.Books as account
 use Rattle.account.specs.Books.{newest_hand_out}
-use Rattle.account.specs.Line.{Fitting, new_station}
+use Rattle.account.specs.Line.{new_station}
 use Rattle.books.specs.Seen.{Seen}
 use Rattle.books.specs.Shows.{Shows}
 use Rattle.readers.specs.declared.Readers.{Readers}
 use Rattle.rules.specs.Reader.{Reader}
+use Rattle.rules.specs.declared.records.ReaderPlan.{ReaderPlan}
 use Rattle.station.specs.Refusals.{no_memory}
 use Rattle.station.specs.Shown.{Ready, books_of, reader_of}
 use Rattle.station.specs.declared.Refusal.{Refusal}
@@ -61,7 +62,7 @@ abbrev pub ShowsReader : Kept → account.Station → Type 0
 ShowsReader x s = (x.reader ≡ s.reader) × Shows x.books s
 
 -- one reader more, which is new
-abbrev pub Added : Fitting → List Kept → List Kept → Type 0
+abbrev pub Added : ReaderPlan → List Kept → List Kept → Type 0
 Added f l m = (x : Kept) × (m ≡ l ++ x ∷ []) × ShowsReader x (new_station f)
 
 -- the number of what a reader, if there is one, handed out last

@@ -37,7 +37,7 @@ impl<F: Format> Readers<F> {
         slots2: usize,
         slots: usize,
     ) -> Result<(), AllocError>
-        ensures { MatchResult result (λ _. Added (record { address = address; slots1 = slots1; slots2 = slots2; slots = slots }) (readers self.old) (readers self.new)) (λ _. readers self.new ≡ readers self.old) }
+        ensures { MatchResult result (λ _. Added (record { address = address; class1 = slots1; class2 = slots2; inbox = slots }) (readers self.old) (readers self.new)) (λ _. readers self.new ≡ readers self.old) }
     {
         self.all.reserve(1)?;
         let station = Station::new(heap, address, slots1, slots2, slots)?;

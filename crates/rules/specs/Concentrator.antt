@@ -27,6 +27,8 @@ use Rattle.rules.specs.declared.records.Reply.TheVariants as reply
 use Rattle.rules.specs.declared.records.Report.{Report}
 use Rattle.rules.specs.declared.records.Request.{Request}
 use Rattle.rules.specs.declared.records.Request.TheVariants.{Reset, Status, Send, Poll}
+use Rattle.rules.specs.declared.records.UserRequest.{UserRequest}
+use Rattle.rules.specs.declared.records.UserRequest.TheVariants as user
 use Rattle.rules.specs.declared.telegram.Telegram.{Telegram}
 use Rattle.rules.specs.declared.telegram.Telegram.TheVariants.{Single, Fixed, Variable}
 
@@ -84,6 +86,13 @@ pub data Asking : Type 0 where
   for_reset for_status : Asking
   for_send : List ℕ → Asking
   for_poll : ℕ → Asking
+
+-- what a caller's request asks for
+abbrev pub asking : UserRequest → Asking
+asking user.Reset = for_reset
+asking user.Status = for_status
+asking (user.Send octets) = for_send octets.now
+asking (user.Poll class) = for_poll class
 
 -- 15 unless a send has 1 to 64 octets, 16 unless a poll is of class 1 or 2
 abbrev pub send_of : Result Message Fault → Result Request Fault

@@ -1,5 +1,5 @@
 -- The codes of requests and answers, the numbers of classes, and the kinds of requests.
-use Rattle.std.specs.Prelude.{ℕ, cond, Some, None, Option, ◌==◌}
+use Rattle.std.specs.Prelude.{◌≡◌, ℕ, cond, Some, None, Option, Result, IfErr, ◌==◌}
 use Rattle.rules.specs.declared.records.Class.{Class}
 use Rattle.rules.specs.declared.records.Class.TheVariants.{First, Second}
 use Rattle.rules.specs.declared.records.Function.{Function}
@@ -10,6 +10,12 @@ use Rattle.rules.specs.declared.records.Request.{Request}
 use Rattle.rules.specs.declared.records.Request.TheVariants as request
 use Rattle.rules.specs.declared.records.Service.{Service}
 use Rattle.rules.specs.declared.records.Service.TheVariants as service
+use Rattle.rules.specs.declared.records.UnknownCode.{UnknownCode}
+use Rattle.std.specs.Result.{result_ok}
+
+-- the result is what a number stands for in a list, or has the number where it stands for nothing there
+abbrev pub Decodes : {A : Type 0} → (ℕ → Option A) → ℕ → Result A UnknownCode → Type 0
+Decodes list k r = (result_ok r ≡ list k) × IfErr r (λ e. e.0 ≡ k)
 
 -- the code of what is asked
 abbrev pub function_code : Function → ℕ
@@ -18,6 +24,14 @@ function_code fn.Send = 3
 function_code fn.Status = 9
 function_code fn.PollFirst = 10
 function_code fn.PollSecond = 11
+
+-- what a request asks
+abbrev pub function_asked : Request → Function
+function_asked request.Reset = fn.Reset
+function_asked request.Status = fn.Status
+function_asked (request.Send m) = fn.Send
+function_asked (request.Poll First) = fn.PollFirst
+function_asked (request.Poll Second) = fn.PollSecond
 
 -- what a code asks, if anything
 abbrev pub function_of : ℕ → Option Function

@@ -4,5 +4,6 @@
 
 pub mod link;
 pub mod message;
+mod printing;
 pub mod records;
 pub mod telegram;

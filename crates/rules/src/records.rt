@@ -1,9 +1,15 @@
 // The closed lists of the link, and the records that its queues hold.
-ghost use Rattle.rules.specs.Functions.{class_of, function_code, function_of, reply_code, reply_of, service_of};
+ghost use Rattle.rules.specs.Concentrator.{asking, request_of};
+ghost use Rattle.rules.specs.Functions.{Decodes, class_of, function_asked, function_code, function_of, reply_code, reply_of, service_of};
 ghost use Rattle.rules.specs.Records.{outcome_of};
 ghost use Rattle.std.specs.Prelude.{◌≡◌};
 
 use crate::message::Message;
+use fault::{Cause, Fault};
+
+// A number that stands for nothing in its list.
+#[derive(Clone, Copy, PartialEq, Eq, Debug)]
+pub struct UnknownCode(pub u8);
 
 // What the concentrator asks of a reader, by the code of its frame.
 #[derive(Clone, Copy, PartialEq, Eq, Debug)]
@@ -15,23 +21,41 @@ pub enum Function {
     PollSecond = 11,
 }
 
-impl Function {
-    pub fn code(self) -> u8
-        ensures { result ≡ function_code self }
-    {
-        self as u8
-    }
+impl From<Function> for u8 {
+    ghost from_gives = { λ function r. r ≡ function_code function };
 
-    pub fn of(code: u8) -> Option<Function>
-        ensures { result ≡ function_of code }
-    {
+    fn from(function: Function) -> u8 {
+        function as u8
+    }
+}
+
+impl TryFrom<u8> for Function {
+    type Error = UnknownCode;
+
+    ghost try_from_gives = { Decodes function_of };
+
+    fn try_from(code: u8) -> Result<Function, UnknownCode> {
         match code {
-            0 => Some(Function::Reset),
-            3 => Some(Function::Send),
-            9 => Some(Function::Status),
-            10 => Some(Function::PollFirst),
-            11 => Some(Function::PollSecond),
-            _ => None,
+            0 => Ok(Function::Reset),
+            3 => Ok(Function::Send),
+            9 => Ok(Function::Status),
+            10 => Ok(Function::PollFirst),
+            11 => Ok(Function::PollSecond),
+            _ => Err(UnknownCode(code)),
+        }
+    }
+}
+
+impl From<Request> for Function {
+    ghost from_gives = { λ request r. r ≡ function_asked request };
+
+    fn from(request: Request) -> Function {
+        match request {
+            Request::Reset => Function::Reset,
+            Request::Status => Function::Status,
+            Request::Send(_) => Function::Send,
+            Request::Poll(Class::First) => Function::PollFirst,
+            Request::Poll(Class::Second) => Function::PollSecond,
         }
     }
 }
@@ -48,25 +72,29 @@ pub enum Reply {
     NotImplemented = 15,
 }
 
-impl Reply {
-    pub fn code(self) -> u8
-        ensures { result ≡ reply_code self }
-    {
-        self as u8
-    }
+impl From<Reply> for u8 {
+    ghost from_gives = { λ reply r. r ≡ reply_code reply };
 
-    pub fn of(code: u8) -> Option<Reply>
-        ensures { result ≡ reply_of code }
-    {
+    fn from(reply: Reply) -> u8 {
+        reply as u8
+    }
+}
+
+impl TryFrom<u8> for Reply {
+    type Error = UnknownCode;
+
+    ghost try_from_gives = { Decodes reply_of };
+
+    fn try_from(code: u8) -> Result<Reply, UnknownCode> {
         match code {
-            0 => Some(Reply::Ack),
-            1 => Some(Reply::Busy),
-            8 => Some(Reply::Data),
-            9 => Some(Reply::NoData),
-            11 => Some(Reply::Status),
-            14 => Some(Reply::NotFunctioning),
-            15 => Some(Reply::NotImplemented),
-            _ => None,
+            0 => Ok(Reply::Ack),
+            1 => Ok(Reply::Busy),
+            8 => Ok(Reply::Data),
+            9 => Ok(Reply::NoData),
+            11 => Ok(Reply::Status),
+            14 => Ok(Reply::NotFunctioning),
+            15 => Ok(Reply::NotImplemented),
+            _ => Err(UnknownCode(code)),
         }
     }
 }
@@ -78,14 +106,16 @@ pub enum Class {
     Second = 2,
 }
 
-impl Class {
-    pub fn of(number: u8) -> Option<Class>
-        ensures { result ≡ class_of number }
-    {
+impl TryFrom<u8> for Class {
+    type Error = UnknownCode;
+
+    ghost try_from_gives = { Decodes class_of };
+
+    fn try_from(number: u8) -> Result<Class, UnknownCode> {
         match number {
-            1 => Some(Class::First),
-            2 => Some(Class::Second),
-            _ => None,
+            1 => Ok(Class::First),
+            2 => Ok(Class::Second),
+            _ => Err(UnknownCode(number)),
         }
     }
 }
@@ -106,15 +136,28 @@ pub enum Request {
     Poll(Class),
 }
 
-impl Request {
-    pub fn service(self) -> Service
-        ensures { result ≡ service_of self }
+// What a user of the concentrator asks of a station, before its octets or its class are looked at.
+#[derive(Clone, Copy, PartialEq, Eq, Debug)]
+pub enum UserRequest<'a> {
+    Reset,
+    Status,
+    Send(&'a [u8]),
+    Poll(u8),
+}
+
+impl UserRequest<'_> {
+    // 15 unless a send has 1 to 64 octets, 16 unless a poll is of class 1 or 2.
+    pub fn request(self) -> Result<Request, Fault>
+        ensures { result ≡ request_of (asking self.entry) }
     {
         match self {
-            Request::Reset => Service::Reset,
-            Request::Status => Service::Status,
-            Request::Send(_) => Service::Send,
-            Request::Poll(_) => Service::Poll,
+            UserRequest::Reset => Ok(Request::Reset),
+            UserRequest::Status => Ok(Request::Status),
+            UserRequest::Send(octets) => Ok(Request::Send(Message::new(octets)?)),
+            UserRequest::Poll(number) => match Class::try_from(number) {
+                Ok(class) => Ok(Request::Poll(class)),
+                Err(_) => Err(Fault::of(Cause::BadClass)),
+            },
         }
     }
 }
@@ -126,6 +169,19 @@ pub enum Service {
     Status,
     Send,
     Poll,
+}
+
+impl From<Request> for Service {
+    ghost from_gives = { λ request r. r ≡ service_of request };
+
+    fn from(request: Request) -> Service {
+        match request {
+            Request::Reset => Service::Reset,
+            Request::Status => Service::Status,
+            Request::Send(_) => Service::Send,
+            Request::Poll(_) => Service::Poll,
+        }
+    }
 }
 
 // How an exchange ends, with the message that a data answer brought.
@@ -140,22 +196,6 @@ pub enum Ending {
     Doubted,
 }
 
-impl Ending {
-    pub fn outcome(self) -> Outcome
-        ensures { result ≡ outcome_of self }
-    {
-        match self {
-            Ending::Done => Outcome::Done,
-            Ending::Confirmed => Outcome::Confirmed,
-            Ending::Busy => Outcome::Busy,
-            Ending::Brought(_) => Outcome::Data,
-            Ending::Empty => Outcome::NoData,
-            Ending::Unserved => Outcome::NotServed,
-            Ending::Doubted => Outcome::Doubtful,
-        }
-    }
-}
-
 // How an exchange ended, as it is reported.
 #[derive(Clone, Copy, PartialEq, Eq, Debug)]
 pub enum Outcome {
@@ -166,6 +206,22 @@ pub enum Outcome {
     NoData,
     NotServed,
     Doubtful,
+}
+
+impl From<Ending> for Outcome {
+    ghost from_gives = { λ ending r. r ≡ outcome_of ending };
+
+    fn from(ending: Ending) -> Outcome {
+        match ending {
+            Ending::Done => Outcome::Done,
+            Ending::Confirmed => Outcome::Confirmed,
+            Ending::Busy => Outcome::Busy,
+            Ending::Brought(_) => Outcome::Data,
+            Ending::Empty => Outcome::NoData,
+            Ending::Unserved => Outcome::NotServed,
+            Ending::Doubted => Outcome::Doubtful,
+        }
+    }
 }
 
 // A message that a poll brought, and the station that it came from.
@@ -184,7 +240,7 @@ impl Arrival {
 }
 
 // ACD and DFC of an answer, both false where none was heard.
-#[derive(Clone, Copy, PartialEq, Eq, Debug)]
+#[derive(Clone, Copy, Default, PartialEq, Eq, Debug)]
 pub struct Flags {
     pub acd: bool,
     pub dfc: bool,
@@ -222,4 +278,21 @@ pub struct Exchange {
     pub request: Request,
     pub bit: bool,
     pub transmissions: u16,
+}
+
+// A reader to be made: its address and the slots of its queues.
+#[derive(Clone, Copy, PartialEq, Eq, Debug)]
+pub struct ReaderPlan {
+    pub address: u8,
+    pub class1: usize,
+    pub class2: usize,
+    pub inbox: usize,
+}
+
+// A concentrator to be made: how often it repeats a frame, and the slots of its queues.
+#[derive(Clone, Copy, PartialEq, Eq, Debug)]
+pub struct ConcentratorPlan {
+    pub repetitions: u8,
+    pub arrivals: usize,
+    pub reports: usize,
 }

@@ -4,7 +4,7 @@ use Rattle.account.proofs.Calls.{Offers, Turns, accepts, gives, has_none, is_bus
 use Rattle.account.specs.Account.{Apart}
 use Rattle.account.specs.Books.{Station, change, fetched, found, offered, turned}
 use Rattle.account.specs.Line as line
-use Rattle.account.specs.Line.{Event, Fitting, Limit, Run, World, answered, begin, concluded, hears_at, new_station, new_world, requested, step, then, timed}
+use Rattle.account.specs.Line.{Event, Limit, Run, World, answered, begin, concluded, hears_at, new_station, new_world, requested, step, then, timed}
 use Rattle.fault.specs.declared.Fault.{Fault}
 use Rattle.frame.specs.declared.Format.{Ghosts}
 use Rattle.readers.proofs.Addresses.{spaced_few, spaced_other}
@@ -17,6 +17,7 @@ use Rattle.rules.specs.declared.message.Message.{Message}
 use Rattle.rules.specs.declared.records.Arrival.{Arrival}
 use Rattle.rules.specs.declared.records.Class.{Class}
 use Rattle.rules.specs.declared.records.Class.TheVariants.{First, Second}
+use Rattle.rules.specs.declared.records.ReaderPlan.{ReaderPlan}
 use Rattle.site.proofs.Ways.{EndsApart}
 use Rattle.site.specs.Shown.{Lawful, Since}
 use Rattle.std.proofs.lemmas.Bool.{eqb-true}
@@ -116,11 +117,11 @@ module _ {X : Type 0} (F : Ghosts X) where
   run_same (then {w = w} r e lim) = step_same e w lim ∙ run_same r
 
   -- the readers of a lawful line are at distinct addresses
-  new_spaced : (l : List Fitting) → Apart l → Spaced (addresses (map new_station l))
+  new_spaced : (l : List ReaderPlan) → Apart l → Spaced (addresses (map new_station l))
   new_spaced [] a = tt
   new_spaced (f ∷ l) a = (a.0, others l a.1, new_spaced l a.2)
     where
-      others : (g : List Fitting) → AllByRecursion (λ x. eqb x.address f.address ≡ false) g → AllByRecursion (λ b. eqb b f.address ≡ false) (addresses (map new_station g))
+      others : (g : List ReaderPlan) → AllByRecursion (λ x. eqb x.address f.address ≡ false) g → AllByRecursion (λ b. eqb b f.address ≡ false) (addresses (map new_station g))
       others [] h = tt
       others (x ∷ g) h = (h.0, others g h.1)
 

@@ -6,7 +6,7 @@ use Rattle.account.proofs.Valid.{SaysWell, ValidWorld, burst_valid, valid_run}
 use Rattle.account.specs.Account.{Apart}
 use Rattle.account.specs.Books.{Station, asked, change, collected, ended, fetched, found, newest_hand_out, newest_send, offered, restarted, turned}
 use Rattle.account.specs.Line as line
-use Rattle.account.specs.Line.{Burst, Event, Fitting, HeardAs, Limit, NoneTo, Octets, OctetsAsked, OnWay, Run, World, answered, begin, changed, concluded, ends, gone, hears_at, leaves, lost_everywhere, new_station, new_world, requested, step, then, timed, transmits, with_bursts, with_concentrator, writes}
+use Rattle.account.specs.Line.{Burst, Event, HeardAs, Limit, NoneTo, Octets, OctetsAsked, OnWay, Run, World, answered, begin, changed, concluded, ends, gone, hears_at, leaves, lost_everywhere, new_station, new_world, requested, step, then, timed, transmits, with_bursts, with_concentrator, writes}
 use Rattle.fault.specs.declared.Fault.{Fault}
 use Rattle.frame.specs.Damage.{Damaged, Fits}
 use Rattle.frame.specs.Laws.{SizeLaw}
@@ -23,6 +23,7 @@ use Rattle.rules.specs.Messages.{within}
 use Rattle.rules.specs.Reader as rd
 use Rattle.rules.specs.Reader.{Turn}
 use Rattle.rules.specs.Telegrams.{carried, telegram_read}
+use Rattle.rules.specs.declared.records.ReaderPlan.{ReaderPlan}
 use Rattle.site.proofs.Addresses.{addresses_changed, ends_apart, lawful_spaced, step_same, turn_address}
 use Rattle.site.proofs.Ways.{carries_joined, carries_left, carries_lost_all, carries_nothing, carries_written, new_burst, none_under_way, there}
 use Rattle.site.specs.Shown.{Carries, Lawful, Memory, Shown, Since, Stands, burst_of, no_burst, ends_of, flies_to, sent_of, with_reader}
@@ -55,10 +56,10 @@ module _ {X : Type 0} (F : Ghosts X) where
       let v = new_world l.0 l.1 l.2 l.3 in
       (l.0, l.1, l.2, l.3, l.4, subst (λ u. v ≡ step F line.loses_all u) l.5 refl)
 
-  new_valid : (r a p : ℕ) (l : List Fitting) → Apart l → ValidWorld (new_world r a p l)
+  new_valid : (r a p : ℕ) (l : List ReaderPlan) → Apart l → ValidWorld (new_world r a p l)
   new_valid r a p l h = record { stations = go l h; exchange = tt; bursts = tt }
     where
-      go : (g : List Fitting) → Apart g → AllByRecursion Rattle.account.proofs.Valid.StationWhole (map new_station g)
+      go : (g : List ReaderPlan) → Apart g → AllByRecursion Rattle.account.proofs.Valid.StationWhole (map new_station g)
       go [] k = tt
       go (f ∷ g) k = (record { known = k.0; class1 = tt; class2 = tt; stored = tt }, go g k.2)
 
@@ -79,7 +80,7 @@ module _ {X : Type 0} (F : Ghosts X) where
 abbrev one_end_more : View → View
 one_end_more v = record { bursts = v.bursts; quiet = v.quiet; ends = v.ends + 1 }
 
-apart_more : (l : List Fitting) (f : Fitting) → Apart l → within 1 32 f.address ≡ true → AllByRecursion (λ b. eqb b f.address ≡ false) (addresses (map new_station l))
+apart_more : (l : List ReaderPlan) (f : ReaderPlan) → Apart l → within 1 32 f.address ≡ true → AllByRecursion (λ b. eqb b f.address ≡ false) (addresses (map new_station l))
     → Apart (l ++ f ∷ [])
 apart_more [] f a k o = (k, tt, tt)
 apart_more (g ∷ l) f a k o = (a.0, all_append (λ h. eqb h.address g.address ≡ false) l f a.1 (turned_round g.address f.address false o.0), apart_more l f a.2 k o.1)
@@ -404,7 +405,7 @@ module _ {X : Type 0} (F : Ghosts X) where
     stands_kept same k = record { shown = shown_kept m m' w apart k st.shown; lawful = subst (λ z. Lawful F z w) (sym same) st.lawful }
 
     -- a reader joins a line that is not started
-    pub stands_joined : (f : Fitting) → m.started ≡ false → m'.started ≡ false → within 1 32 f.address ≡ true → AllByRecursion (λ b. eqb b f.address ≡ false) (addresses w.stations)
+    pub stands_joined : (f : ReaderPlan) → m.started ≡ false → m'.started ≡ false → within 1 32 f.address ≡ true → AllByRecursion (λ b. eqb b f.address ≡ false) (addresses w.stations)
         → m'.concentrator ≡ m.concentrator → (x : Kept) → m'.readers ≡ m.readers ++ x ∷ [] → ShowsReader x (new_station f) → m'.line ≡ memory.joined m.line
         → memory.open_to_join m.line ≡ true → Stands F m' (with_reader f w)
     stands_joined f off off' known other c x r q l can =

@@ -4,7 +4,7 @@ use lib.Seq.{take-append_seam}
 use Rattle.account.proofs.Calls.{Asked, Ends, Timing, asks, closes, doubts, hears, opened, repeats, times}
 use Rattle.account.specs.Books.{Station, asked, change, ended, found, newest_send, offered}
 use Rattle.account.specs.Line as line
-use Rattle.account.specs.Line.{Event, Fitting, HeardAs, Octets, OctetsAsked, World, step}
+use Rattle.account.specs.Line.{Event, HeardAs, Octets, OctetsAsked, World, step}
 use Rattle.damage.specs.Damages.{all_within, heard, hearing, only_if, rest, shortens, twice}
 use Rattle.damage.specs.declared.DamageError.{DamageError}
 use Rattle.damage.specs.declared.DamageError.TheVariants.{BeyondGuard, FlipOutside, FlipTwice, NothingCut}
@@ -34,6 +34,7 @@ use Rattle.rules.specs.Telegrams.{carried, telegram_read}
 use Rattle.rules.specs.declared.records.Ending.TheVariants as ending
 use Rattle.rules.specs.declared.records.Exchange.{Exchange}
 use Rattle.rules.specs.declared.records.Outcome.{Outcome}
+use Rattle.rules.specs.declared.records.ReaderPlan.{ReaderPlan}
 use Rattle.rules.specs.declared.records.Request.{Request}
 use Rattle.rules.specs.declared.telegram.Telegram.{Telegram}
 use Rattle.site.proofs.Events.{doubted, hearing_ends, hearing_refused, is_heard, request_refused, request_sent, sent_again, sent_is, stands_joined, stands_lost, stands_offered, time_out_refused}
@@ -161,15 +162,15 @@ module _ {X : Type 0} (F : Ghosts X) where
       subst (λ z. on_way i z m.line ≡ true → m' ≡ with_line (arrived i z m.line) m → Stands F m' (step F (line.loses a (k - 1) (burst_of z w)) w)) back go on e
 
   -- a reader joins
-  pub joins_come : (m m' : Memory) (f : Fitting) (xs : List Kept) → is_open m ≡ true → None ≡ place_of f.address m.readers
-      → Ok tt ≡ reader_check f.address f.slots1 f.slots2 f.slots → Added f m.readers xs → m' ≡ with_line (joined m.line) (with_readers xs m)
+  pub joins_come : (m m' : Memory) (f : ReaderPlan) (xs : List Kept) → is_open m ≡ true → None ≡ place_of f.address m.readers
+      → Ok tt ≡ reader_check f.address f.class1 f.class2 f.inbox → Added f m.readers xs → m' ≡ with_line (joined m.line) (with_readers xs m)
       → (Ok tt ≡ join_answer f m) × ((w : World) → Stands F m w → Stands F m' (with_reader f w))
   joins_come m m' f xs ok none checked new e =
       let parts = and_parts (not m.started) (open_to_join m.line) ok in
       let off : m.started ≡ false = unset m.started parts.0 in
       let known : within 1 32 f.address ≡ true = must_true (within 1 32 f.address) (fault BadStation 0) _ tt (sym checked) in (
-        ap told checked ∙ ap (λ o. joined_at o (reader_check f.address f.slots1 f.slots2 f.slots)) none
-            ∙ ap (λ z. cond z (joined_at (place_of f.address m.readers) (reader_check f.address f.slots1 f.slots2 f.slots)) (Err Closed)) (sym ok),
+        ap told checked ∙ ap (λ o. joined_at o (reader_check f.address f.class1 f.class2 f.inbox)) none
+            ∙ ap (λ z. cond z (joined_at (place_of f.address m.readers) (reader_check f.address f.class1 f.class2 f.inbox)) (Err Closed)) (sym ok),
         λ w st. stands_joined F m m' w st f off (ap (λ z. z.started) e ∙ off) known (no_partner f.address m.readers none w.stations st.shown.readers)
             (ap (λ z. z.concentrator) e) new.0 (ap (λ z. z.readers) e ∙ new.1) new.2 (ap (λ z. z.line) e) parts.1,
       )

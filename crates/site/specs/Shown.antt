@@ -2,13 +2,14 @@
 use Rattle.std.specs.Prelude.{◌≡◌, ℕ, suc, ◌-◌, ◌<◌, ◌≤◌, Bool, true, false, List, [], ◌∷◌, ◌++◌, map, length, Some, None, Option, slice_index, slice_index_or}
 use Rattle.account.specs.Account.{Account, Apart}
 use Rattle.account.specs.Books.{Station, found}
-use Rattle.account.specs.Line.{Burst, Fitting, Run, World, new_station, new_world}
+use Rattle.account.specs.Line.{Burst, Run, World, new_station, new_world}
 use Rattle.frame.specs.declared.Format.{Ghosts}
 use Rattle.line.specs.Ways.{Sent, View, as_sent, on_way}
 use Rattle.readers.specs.Pairs.{Paired, addresses}
 use Rattle.readers.specs.Readers.{Kept, ShowsReader}
 use Rattle.rules.specs.Concentrator.{Concentrator}
 use Rattle.rules.specs.Telegrams.{carried}
+use Rattle.rules.specs.declared.records.ReaderPlan.{ReaderPlan}
 use Rattle.rules.specs.declared.telegram.Telegram.TheVariants.{Single}
 use Rattle.std.specs.List.{slice_get}
 
@@ -58,7 +59,7 @@ module _ {X : Type 0} (F : Ghosts X) where
   -- some run of a new line, with readers at distinct addresses, has come to this
   abbrev pub Lawful : Bool → World → Type 0
   Lawful started w =
-      (repetitions : ℕ) × (arrivals : ℕ) × (reports : ℕ) × (readers : List Fitting) ×
+      (repetitions : ℕ) × (arrivals : ℕ) × (reports : ℕ) × (readers : List ReaderPlan) ×
       Apart readers × Since started (new_world repetitions arrivals reports readers) w
 
   -- the site stands at this point of a lawful run
@@ -79,5 +80,5 @@ abbrev pub burst_of : ℕ → World → Burst
 burst_of k w = slice_index_or w.bursts (k - 1) no_burst
 
 -- the line with one reader more
-abbrev pub with_reader : Fitting → World → World
+abbrev pub with_reader : ReaderPlan → World → World
 with_reader f w = record { concentrator = w.concentrator; stations = w.stations ++ new_station f ∷ []; bursts = w.bursts }

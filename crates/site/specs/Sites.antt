@@ -1,7 +1,7 @@
 -- A site of the code as plain data, and what its calls answer and come to.
 use Rattle.std.specs.Prelude.{◌≡◌, ℕ, ◌+◌, Bool, true, false, cond, not, ◌&&◌, ◌⊎◌, List, [], length, take, Some, None, Ok, Err, vec_items, Option, Result, Vec}
 use Rattle.account.specs.Books.{asked, change, ended, found, newest_send}
-use Rattle.account.specs.Line.{Event, Fitting, World, step}
+use Rattle.account.specs.Line.{Event, World, step}
 use Rattle.concentrator.specs.View as concentrator
 use Rattle.damage.specs.declared.DamageError.{DamageError}
 use Rattle.fault.specs.declared.Fault.{Fault}
@@ -20,6 +20,7 @@ use Rattle.rules.specs.declared.records.Ending.{Ending}
 use Rattle.rules.specs.declared.records.Exchange.{Exchange}
 use Rattle.rules.specs.declared.records.Outcome.{Outcome}
 use Rattle.rules.specs.declared.records.Outcome.TheVariants.{Doubtful}
+use Rattle.rules.specs.declared.records.ReaderPlan.{ReaderPlan}
 use Rattle.site.specs.Shown.{Memory, Stands}
 use Rattle.site.specs.Troubles.{told}
 use Rattle.site.specs.declared.Site.{Site}
@@ -77,8 +78,8 @@ abbrev pub joined_at : Option ℕ → Result (Unit {0}) Fault → Result (Unit {
 joined_at None check = told check
 joined_at (Some place) check = Err Joined
 
-abbrev pub join_answer : Fitting → Memory → Result (Unit {0}) Trouble
-join_answer f m = cond (is_open m) (joined_at (place_of f.address m.readers) (reader_check f.address f.slots1 f.slots2 f.slots)) (Err Closed)
+abbrev pub join_answer : ReaderPlan → Memory → Result (Unit {0}) Trouble
+join_answer f m = cond (is_open m) (joined_at (place_of f.address m.readers) (reader_check f.address f.class1 f.class2 f.inbox)) (Err Closed)
 
 -- a request: the k of its burst
 abbrev pub sent_as : Memory → Result co.Sent Fault → Result ℕ Trouble

@@ -80,8 +80,8 @@ impl<F: Format> Site<F> {
         slots2: usize,
         slots: usize,
     ) -> Result<(), Trouble>
-        ensures answer { result ≡ (if no_memory result then Err trouble.OutOfMemory else join_answer (record { address = address; slots1 = slots1; slots2 = slots2; slots = slots }) (seen self.old)) }
-        ensures stands { MatchResult result (λ _. (w : World) → Stands F.Format (seen self.old) w → Stands F.Format (seen self.new) (with_reader (record { address = address; slots1 = slots1; slots2 = slots2; slots = slots }) w)) (λ _. seen self.new ≡ seen self.old) }
+        ensures answer { result ≡ (if no_memory result then Err trouble.OutOfMemory else join_answer (record { address = address; class1 = slots1; class2 = slots2; inbox = slots }) (seen self.old)) }
+        ensures stands { MatchResult result (λ _. (w : World) → Stands F.Format (seen self.old) w → Stands F.Format (seen self.new) (with_reader (record { address = address; class1 = slots1; class2 = slots2; inbox = slots }) w)) (λ _. seen self.new ≡ seen self.old) }
     {
         if !self.is_open() {
             return Err(Trouble::Closed);

@@ -1,7 +1,7 @@
 -- From the exact promises of a call to the station of the account that is shown after it.
 use Rattle.std.proofs.Common.{◌≡◌, ℕ, Bool, true, false, cond, List, Ok, Err, Result, sym, refl, ap, ◌∙◌, subst}
 use Rattle.account.specs.Books as account
-use Rattle.account.specs.Line.{Fitting, new_station}
+use Rattle.account.specs.Line.{new_station}
 use Rattle.books.proofs.Shown.{shows_asked, shows_collected, shows_ended, shows_new, shows_offered, shows_restarted, shows_turned}
 use Rattle.books.specs.Calls.{asked_seen, ended_seen, heard_seen, marked_seen, offered_seen}
 use Rattle.books.specs.Seen.{Seen, nothing_seen}
@@ -13,6 +13,7 @@ use Rattle.rules.specs.Records.{outcome_of}
 use Rattle.rules.specs.declared.records.Ending.{Ending}
 use Rattle.rules.specs.declared.records.Mark.TheVariants.{Doubtful}
 use Rattle.rules.specs.declared.records.Outcome.{Outcome}
+use Rattle.rules.specs.declared.records.ReaderPlan.{ReaderPlan}
 use Rattle.rules.specs.declared.records.Request.{Request}
 use Rattle.station.specs.Shown.{Shown, ShownChange, books_of, heard, reader_of}
 use Rattle.station.specs.declared.Station.{Station}
@@ -98,8 +99,8 @@ module _ {F : Type 0} (x y : Station F) where
       (λ v s h. heard_books n (hearing s.reader) v s h)
 
 pub begun_step :
-    {F : Type 0} (x : Station F) (f : Fitting) →
-    reader_of x ≡ rules.new_reader f.address f.slots1 f.slots2 f.slots →
+    {F : Type 0} (x : Station F) (f : ReaderPlan) →
+    reader_of x ≡ rules.new_reader f.address f.class1 f.class2 f.inbox →
     books_of x ≡ nothing_seen →
     Shown x (new_station f)
 begun_step x f moved noted = let P : Seen → Type 0 = λ v. Shows v (new_station f) in (moved, subst P (sym noted) (shows_new f))

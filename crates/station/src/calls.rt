@@ -25,7 +25,7 @@ impl<F: Format> Station<F> {
     {
         self.books.reserve()?;
         self.reader.offer(class, octets)?;
-        self.books.offered(Class::of(class))?;
+        self.books.offered(Class::try_from(class).ok())?;
         Ok(())
     }
 

@@ -65,7 +65,7 @@ impl<F: Format> Station<F> {
         slots: usize,
     ) -> Result<Station<F>, AllocError>
         ensures begun { IfOk result (λ x. (reader_of x ≡ new_reader address slots1 slots2 slots) × (books_of x ≡ nothing_seen)) }
-        ensures shown { IfOk result (λ x. Shown x (new_station (record { address = address; slots1 = slots1; slots2 = slots2; slots = slots }))) }
+        ensures shown { IfOk result (λ x. Shown x (new_station (record { address = address; class1 = slots1; class2 = slots2; inbox = slots }))) }
     {
         let class1 = blank_slots(heap, slots1)?;
         let class2 = blank_slots(heap, slots2)?;

@@ -35,8 +35,8 @@ returns g c =
     let e = c.in_ok-offer.ensures in
     let noted =
     c.in_ok-offered.ensures.noted ∙
-    ap (λ k. class_seen c.of.result k) c.reserve.ensures.kept ∙
-    ap (λ k. class_seen k v) c.of.ensures ∙
+    ap (λ k. class_seen c.ok.result k) c.reserve.ensures.kept ∙
+    ap (λ k. class_seen k v) (c.ok.ensures.value ∙ c.try_from.ensures.0) ∙
     accepted_seen (message_answer c.args.octets.now) (class_of c.args.class) (reader_of x) v e.answer in
     record {
       answer = ap told e.answer;
