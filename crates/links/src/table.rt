@@ -58,6 +58,7 @@ impl LinkTable {
         if buffer.len() < usize::from(STATIONS) {
             return Err(Fault::of(Cause::ShortBuffer));
         }
+        // Counted by hand: once `iter_mut` has lent the buffer, a proof knows only its length.
         let mut count = 0;
         for station in 1..=STATIONS {
             if self.get(station).set {

@@ -36,6 +36,10 @@ none_oldest (x ∷ q) e =
     let no : ⊥ = omega arith in
     absurd no
 
+-- one step on is the next slot
+one_after : (h k : ℕ) → h < k → slot_after h 1 k ≡ next_slot h (k - 1)
+one_after h k l = grind (arith, nat_tests)
+
 -- numbers that lie within `k` slots
 pub record Within (k first len : ℕ) : Type 0 where
   pub most : k ≤ 256
@@ -174,7 +178,7 @@ module _ {S A : Type 0} (items : S → List A) where
 
   -- a take that is done: the answer, what the queue holds and can hold then, and where its oldest record is
   pub after_take : (q q' : Queue S) (x : A) (k : ℕ) → Some x ≡ oldest (contents items q) → k ≡ length (items q.slots)
-      → q'.slots ≡ q.slots → q'.first ≡ next_slot q.first (k - 1) → q'.len ≡ q.len - 1
+      → q'.slots ≡ q.slots → q'.first ≡ slot_after q.first 1 k → q'.len ≡ q.len - 1
       → (Ok x ≡ take_answer (contents items q)) × (contents items q' ≡ take_contents (contents items q)) × (capacity items q' ≡ capacity items q) × (q'.first ≡ take_first items q)
   unfolding take_first
   after_take q q' x k o c s f n =
@@ -183,7 +187,7 @@ module _ {S A : Type 0} (items : S → List A) where
       let w = (has_record q e).0 in
       let xs : List A = items q.slots in
       let l : length (items q'.slots) ≡ length xs = ap (λ t. length (items t)) s in
-      let b : q'.first ≡ next_slot q.first (length xs - 1) = f ∙ ap (λ m. next_slot q.first (m - 1)) c in
+      let b : q'.first ≡ next_slot q.first (length xs - 1) = f ∙ ap (slot_after q.first 1) c ∙ one_after q.first (length xs) w.inside in
       let i : next_slot q.first (length xs - 1) < length xs = grind (arith, nat_tests) in
       let w' : Within (length (items q'.slots)) q'.first q'.len = record { most = omega arith; inside = omega arith; fits = omega arith } in (
         a.1,

@@ -4,7 +4,7 @@
 mod slots;
 
 ghost use Rattle.queue.specs.Fifo.{empty, full, oldest, put_answer, put_contents, slots_answer, slots_capacity, slots_fit, take_answer, take_contents};
-ghost use Rattle.queue.specs.Ring.{capacity, contents, next_slot, put_items, slot_after, sound, take_first};
+ghost use Rattle.queue.specs.Ring.{capacity, contents, put_items, slot_after, sound, take_first};
 ghost use Rattle.std.specs.Prelude.{◌≡◌, ◌<◌, ◌≤◌, [], length, OnErr};
 
 use fault::{Cause, Fault};
@@ -16,7 +16,7 @@ pub const MOST_SLOTS: usize = 256;
 fn slots_fit(count: usize) -> bool
     ensures { result ≡ slots_fit count }
 {
-    1 <= count && count <= MOST_SLOTS
+    (1..=MOST_SLOTS).contains(&count)
 }
 
 // Whether a queue may be made over so many slots.
@@ -28,14 +28,6 @@ pub fn check_slots(count: usize) -> Result<(), Fault>
     } else {
         Err(Fault::of(Cause::BadSlots))
     }
-}
-
-// The slot after `at`, among the slots up to `last`.
-fn next_slot(at: usize, last: usize) -> usize
-    requires { at ≤ last }
-    ensures { result ≡ next_slot at last }
-{
-    if at == last { 0 } else { at + 1 }
 }
 
 // The slot `steps` after `at`, among `count` slots.
@@ -73,7 +65,9 @@ impl<S: Slots> Queue<S> {
         }
     }
 
-    // True of every queue over a right number of slots; tested in place of a condition on calls.
+    // True of every queue over a right number of slots. No ghost field says so: the type would then take its bound's
+    // members along into every clause that names a queue, and the number of slots would be tested still.
+    #[tactic(auto, unfolding(crate::specs::Ring::sound))]
     fn is_sound(&self) -> bool
         ensures { result ≡ sound S.items self.now }
     {
@@ -151,8 +145,8 @@ impl<S: Slots> Queue<S> {
         let Some(x) = self.oldest() else {
             return Err(Fault::of(Cause::QueueEmpty));
         };
-        let last = self.slots.count() - 1;
-        self.first = next_slot(self.first, last);
+        let count = self.slots.count();
+        self.first = slot_after(self.first, 1, count);
         self.len -= 1;
         Ok(x)
     }

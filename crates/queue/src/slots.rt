@@ -74,7 +74,7 @@ impl<T: Copy, const N: usize> Slots for [T; N] {
     ghost items = { λ s. s };
 
     fn as_slice(&self) -> &[T] {
-        self
+        &self[..]
     }
 
     fn write(&mut self, at: usize, x: T) {

@@ -6,7 +6,8 @@ use fault::{Cause, Fault};
 use frame::{MOST_OCTETS, UserOctets, fill_record};
 
 // The count of its octets, and the octets with zeros after them, so that two messages are equal exactly if their
-// octets are. A count outside 1 to 64, which no message that is made here has, counts as 64.
+// octets are. A count outside 1 to 64, which no message that is made here has, counts as 64: a ghost field cannot say
+// that there is none, as the rules speak of the message of any octets.
 #[derive(Clone, Copy, PartialEq, Eq, Debug)]
 pub struct Message {
     count: u8,
@@ -23,7 +24,7 @@ impl Message {
     pub fn new(octets: &[u8]) -> Result<Message, Fault>
         ensures { result ≡ message_answer octets.now }
     {
-        if octets.len() < 1 || octets.len() > MOST_OCTETS {
+        if !(1..=MOST_OCTETS).contains(&octets.len()) {
             return Err(Fault::of(Cause::BadLength));
         }
         let mut padded = [0; 64];
@@ -37,8 +38,8 @@ impl Message {
     pub fn len(&self) -> usize
         ensures { result ≡ octet_count self.now }
     {
-        let count = self.count as usize;
-        if 1 <= count && count <= MOST_OCTETS {
+        let count = usize::from(self.count);
+        if (1..=MOST_OCTETS).contains(&count) {
             count
         } else {
             MOST_OCTETS

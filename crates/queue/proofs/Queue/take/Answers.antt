@@ -15,17 +15,12 @@ returns-in_default g c =
       refused = refl {a = c.args.self.now};
     }
 
-pub overflow_sub-last : goal.overflow_sub-last
-overflow_sub-last g c =
+pub slot_after-self-requires : goal.slot_after-self-requires
+slot_after-self-requires g c =
     let h = has_record g.S.Slots.items c.args.self.now (some_oldest _ _ c.in-Some.ensures).0 in
-    let k = c.count-last.ensures in
-    omega arith
-
-pub next_slot-self-requires : goal.next_slot-self-requires
-next_slot-self-requires g c =
-    let h = has_record g.S.Slots.items c.args.self.now (some_oldest _ _ c.in-Some.ensures).0 in
-    let k = c.count-last.ensures in
-    omega arith
+    let w = h.0 in
+    let k = c.count-count.ensures in
+    (omega arith, (omega arith, omega arith))
 
 pub overflow_sub-self : goal.overflow_sub-self
 overflow_sub-self g c =
@@ -34,5 +29,5 @@ overflow_sub-self g c =
 
 pub returns : goal.returns
 returns g c =
-    let p = after_take g.S.Slots.items c.args.self.now _ c.in-Some.x c.count-last.result c.in-Some.ensures c.count-last.ensures refl c.next_slot-self.ensures refl in
+    let p = after_take g.S.Slots.items c.args.self.now _ c.in-Some.x c.count-count.result c.in-Some.ensures c.count-count.ensures refl c.slot_after-self.ensures refl in
     record { answer = p.0; held = p.1; room = p.2; store = refl {a = c.args.self.now.slots}; first = p.3; refused = tt }
