@@ -1,1 +1,1 @@
-pub mod Declined
+pub mod Same

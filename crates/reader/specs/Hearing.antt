@@ -4,9 +4,17 @@ use Rattle.fault.specs.declared.Fault.{Fault}
 use Rattle.frame.specs.declared.Format.{Ghosts}
 use Rattle.reader.specs.declared.Heard.{Heard}
 use Rattle.reader.specs.declared.hearing.Response.{Response}
+use Rattle.reader.specs.declared.hearing.Task.{Task}
+use Rattle.reader.specs.declared.hearing.Task.TheVariants as task
+use Rattle.rules.specs.Reader as rules
 use Rattle.rules.specs.Reader.{Reader, Turn, hear, hear_after, mark_heard, record_after, took_in}
 use Rattle.rules.specs.Telegrams.{carried, telegram_read}
 use Rattle.rules.specs.declared.message.Message.{Message}
+
+-- a task as the rules speak of it
+abbrev pub task_of : Task → rules.Task
+task_of (task.Take m) = rules.take m
+task_of (task.Give c) = rules.give c
 
 -- a turn before its answer is written
 abbrev pub response : Result Turn Fault → Result Response Fault

@@ -1,11 +1,12 @@
 // What a reader does with a burst that it hears.
 ghost use Rattle.frame.specs.Controls.{bit, code_of};
 ghost use Rattle.queue.specs.Fifo.{take_answer, take_contents};
-ghost use Rattle.reader.specs.Hearing.{Follows, heard_answer, heard_buffer, hearing, response};
+ghost use Rattle.reader.specs.Hearing.{Follows, heard_answer, heard_buffer, hearing, response, task_of};
 ghost use Rattle.reader.specs.View.{view};
 ghost use Rattle.rules.specs.Functions.{function_of};
 ghost use Rattle.rules.specs.Queues.{holding};
-ghost use Rattle.rules.specs.Reader.{addressed, answer as answer_to, asked, class_queue, dfc, give_out, hear_after, hear_telegram, mark_heard, record_after, repeat, reset, take_in, with_class, with_link};
+ghost use Rattle.rules.specs.Reader.{addressed, answer as answer_to, asked, class_queue, count, dfc, give_out, hear_after, hear_telegram, mark_heard, record_after, repeat, reset, take_in, with_class, with_link};
+ghost use Rattle.std.specs.Bool.{beq};
 ghost use Rattle.std.specs.Prelude.{◌≡◌, false, Some, None, Ok, OnErr};
 
 use crate::{Heard, Reader};
@@ -16,6 +17,13 @@ use rules::link::Link;
 use rules::message::Message;
 use rules::records::{Class, Function, Mark, Reply};
 use rules::telegram::{Telegram, read_telegram, write_telegram};
+
+// What a request with the expected bit asks for: to take a message in, or to hand one of a class out.
+#[derive(Clone, Copy)]
+enum Task {
+    Take(Message),
+    Give(Class),
+}
 
 // What a reader answers to a request, before the answer is written.
 #[derive(Clone, Copy)]
@@ -67,6 +75,7 @@ impl<S: Slots<Item = Message>, F: Format> Reader<S, F> {
     }
 
     // Single comes from a reader.
+    #[tactic(auto, unfolding(rules::specs::Reader::hear_telegram))]
     fn hear_telegram(&mut self, telegram: Telegram, marked: &mut Message) -> Result<Response, Fault>
         ensures turn { Follows (hear_telegram telegram (view S.items self.old)) (view S.items self.old) (view S.items self.new) marked.old marked.new result }
         ensures refused { OnErr result (self.new ≡ self.old) }
@@ -115,24 +124,37 @@ impl<S: Slots<Item = Message>, F: Format> Reader<S, F> {
         ensures turn { Follows (answer_to (asked (function_of (code_of control.octet)) (bit 16 control.octet) (bit 32 control.octet) message) (view S.items self.old)) (view S.items self.old) (view S.items self.new) marked.old marked.new result }
         ensures refused { OnErr result (self.new ≡ self.old) }
     {
-        let fcv = control.fcv();
-        let unset = !self.link.set;
-        let repeated = control.fcb() != self.link.next;
-        match (Function::try_from(control.code()).ok(), message) {
-            (None, _) => Ok(Response::still(self.says(Reply::NotImplemented))),
-            (Some(Function::Reset), None) if !fcv => Ok(self.reset(marked)),
-            (Some(Function::Status), None) if !fcv => Ok(Response::still(self.says(Reply::Status))),
-            (Some(Function::Send), Some(_))
-            | (Some(Function::PollFirst | Function::PollSecond), None)
-                if fcv && unset => Err(Fault::of(Cause::ReaderUnset)),
-            (Some(Function::Send), Some(_))
-            | (Some(Function::PollFirst | Function::PollSecond), None)
-                if fcv && repeated => self.repeat(),
-            (Some(Function::Send), Some(message)) if fcv => Ok(self.take_in(message, marked)),
-            (Some(Function::PollFirst), None) if fcv => Ok(self.give_out(Class::First, marked)),
-            (Some(Function::PollSecond), None) if fcv => Ok(self.give_out(Class::Second, marked)),
-            _ => Err(Fault::of(Cause::WrongControl)),
+        let Ok(function) = Function::try_from(control.code()) else {
+            return Ok(Response::still(self.says(Reply::NotImplemented)));
+        };
+        let task = match (function, control.fcv(), message) {
+            (Function::Reset, false, None) => return Ok(self.reset(marked)),
+            (Function::Status, false, None) => {
+                return Ok(Response::still(self.says(Reply::Status)));
+            }
+            (Function::Send, true, Some(message)) => Task::Take(message),
+            (Function::PollFirst, true, None) => Task::Give(Class::First),
+            (Function::PollSecond, true, None) => Task::Give(Class::Second),
+            _ => return Err(Fault::of(Cause::WrongControl)),
+        };
+        self.count(control.fcb(), task, marked)
+    }
+
+    // By whether the link is set, and whether the bit is the expected one.
+    fn count(&mut self, bit: bool, task: Task, marked: &mut Message) -> Result<Response, Fault>
+        ensures turn { Follows (count self.old.link.set (beq bit self.old.link.next) (task_of task) (view S.items self.old)) (view S.items self.old) (view S.items self.new) marked.old marked.new result }
+        ensures refused { OnErr result (self.new ≡ self.old) }
+    {
+        if !self.link.set {
+            return Err(Fault::of(Cause::ReaderUnset));
         }
+        if bit != self.link.next {
+            return self.repeat();
+        }
+        Ok(match task {
+            Task::Take(message) => self.take_in(message, marked),
+            Task::Give(class) => self.give_out(class, marked),
+        })
     }
 
     // Sets the link; the ACK is not stored.
@@ -150,18 +172,19 @@ impl<S: Slots<Item = Message>, F: Format> Reader<S, F> {
     }
 
     // The stored answer goes out again, symbol for symbol.
+    #[tactic(auto, unfolding(rules::specs::Reader::repeat))]
     fn repeat(&self) -> Result<Response, Fault>
         ensures answer { result ≡ response (repeat self.now.stored (view S.items self.now)) }
         ensures moved { view S.items self.now ≡ hear_after (repeat self.now.stored (view S.items self.now)) (view S.items self.now) }
         ensures unmarked { mark_heard (repeat self.now.stored (view S.items self.now)) ≡ None }
     {
-        match self.stored {
-            Some(answer) => Ok(Response::still(answer)),
-            None => Err(Fault::of(Cause::NothingStored)),
-        }
+        self.stored
+            .map(Response::still)
+            .ok_or(Fault::of(Cause::NothingStored))
     }
 
     // A send with the expected bit: into the inbox, or busy if that is full.
+    #[tactic(auto, unfolding(rules::specs::Reader::take_in))]
     fn take_in(&mut self, message: Message, marked: &mut Message) -> Response
         ensures turn { Follows (take_in (dfc (view S.items self.old)) message (view S.items self.old)) (view S.items self.old) (view S.items self.new) marked.old marked.new (Ok result) }
     {
@@ -174,6 +197,7 @@ impl<S: Slots<Item = Message>, F: Format> Reader<S, F> {
     }
 
     // A poll with the expected bit: the oldest of its class, which is now out, or no data.
+    #[tactic(auto, unfolding(rules::specs::Reader::give_out))]
     fn give_out(&mut self, class: Class, marked: &mut Message) -> Response
         ensures turn { Follows (give_out (class_queue class (view S.items self.old)).records class (view S.items self.old)) (view S.items self.old) (view S.items self.new) marked.old marked.new (Ok result) }
     {
@@ -206,9 +230,6 @@ impl<S: Slots<Item = Message>, F: Format> Reader<S, F> {
         ensures moved { view S.items self.new ≡ with_class class (holding (class_queue class (view S.items self.old)) (take_contents (class_queue class (view S.items self.old)).records)) (view S.items self.old) }
         ensures refused { OnErr result (self.new ≡ self.old) }
     {
-        match class {
-            Class::First => self.class1.take(),
-            Class::Second => self.class2.take(),
-        }
+        self.class_mut(class).take()
     }
 }

@@ -6,8 +6,10 @@ mod hearing;
 mod marking;
 
 ghost use Rattle.queue.specs.Fifo.{take_answer};
+ghost use Rattle.reader.specs.Classes.{lends_class, queue_of};
 ghost use Rattle.reader.specs.View.{view};
 ghost use Rattle.rules.specs.Reader.{class_queue, collected, new_reader, offer, offer_after, offer_answer, reader_check};
+ghost use Rattle.std.specs.Borrow.{sem};
 ghost use Rattle.std.specs.Prelude.{◌≡◌, length, OnErr};
 
 use fault::{Cause, Fault};
@@ -15,7 +17,7 @@ use frame::Format;
 use queue::{Queue, Slots, check_slots};
 use rules::link::Link;
 use rules::message::Message;
-use rules::records::{Class, Mark};
+use rules::records::{Class, Mark, ReaderPlan};
 use rules::telegram::Telegram;
 use std::marker::PhantomData;
 
@@ -43,19 +45,19 @@ pub struct Heard {
 }
 
 // Whether a reader may begin with this address and so many slots.
-pub fn check(address: u8, slots1: usize, slots2: usize, slots: usize) -> Result<(), Fault>
-    ensures { result ≡ reader_check address slots1 slots2 slots }
+pub fn check(plan: ReaderPlan) -> Result<(), Fault>
+    ensures { result ≡ reader_check plan.address plan.class1 plan.class2 plan.inbox }
 {
-    if address < 1 || address > 32 {
+    if !(1..=32).contains(&plan.address) {
         return Err(Fault::of(Cause::BadStation));
     }
-    check_slots(slots1)?;
-    check_slots(slots2)?;
-    check_slots(slots)
+    check_slots(plan.class1)?;
+    check_slots(plan.class2)?;
+    check_slots(plan.inbox)
 }
 
 impl<S: Slots<Item = Message>, F: Format> Reader<S, F> {
-    // A new reader over the slots of its queues; one over a wrong number of slots has a queue that can hold nothing.
+    // A new reader over the slots of its queues, lent or its own; one over a wrong number of slots has a queue that can hold nothing.
     pub fn over(address: u8, class1: S, class2: S, inbox: S) -> Reader<S, F>
         ensures { view S.items result ≡ new_reader address (length (S.items class1)) (length (S.items class2)) (length (S.items inbox)) }
     {
@@ -83,14 +85,30 @@ impl<S: Slots<Item = Message>, F: Format> Reader<S, F> {
         self.link
     }
 
+    fn class(&self, class: Class) -> &Queue<S>
+        ensures { result.now ≡ queue_of class self.now }
+    {
+        match class {
+            Class::First => &self.class1,
+            Class::Second => &self.class2,
+        }
+    }
+
+    fn class_mut(&mut self, class: Class) -> &mut Queue<S>
+        ensures* writes_back { sem 𝓛 (lends_class S.row F.row self.entry class result) }
+        ensures value { result.now ≡ queue_of class self.old }
+    {
+        match class {
+            Class::First => &mut self.class1,
+            Class::Second => &mut self.class2,
+        }
+    }
+
     // How many messages of a class wait to be handed out.
     pub fn waiting(&self, class: Class) -> usize
         ensures { result ≡ length (class_queue class (view S.items self.now)).records }
     {
-        match class {
-            Class::First => self.class1.len(),
-            Class::Second => self.class2.len(),
-        }
+        self.class(class).len()
     }
 
     // How many messages wait to be collected.
@@ -107,11 +125,10 @@ impl<S: Slots<Item = Message>, F: Format> Reader<S, F> {
         ensures refused { OnErr result (self.new ≡ self.old) }
     {
         let message = Message::new(octets)?;
-        match Class::try_from(class) {
-            Ok(Class::First) => self.class1.put(message),
-            Ok(Class::Second) => self.class2.put(message),
-            Err(_) => Err(Fault::of(Cause::BadClass)),
-        }
+        let Ok(class) = Class::try_from(class) else {
+            return Err(Fault::of(Cause::BadClass));
+        };
+        self.class_mut(class).put(message)
     }
 
     // The oldest message of the inbox, which is taken out.
@@ -122,16 +139,4 @@ impl<S: Slots<Item = Message>, F: Format> Reader<S, F> {
     {
         self.inbox.take()
     }
-}
-
-// A new reader over slots that a caller lends.
-pub fn lend<'a, F: Format>(
-    address: u8,
-    class1: &'a mut [Message],
-    class2: &'a mut [Message],
-    inbox: &'a mut [Message],
-) -> Reader<&'a mut [Message], F>
-    ensures { view (λ x. x.now) result ≡ new_reader address (length class1.old) (length class2.old) (length inbox.old) }
-{
-    Reader::over(address, class1, class2, inbox)
 }

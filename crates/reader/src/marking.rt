@@ -13,7 +13,7 @@ use rules::records::Mark;
 
 impl<S: Slots<Item = Message>, F: Format> Reader<S, F> {
     // Starts again: the link is unset, nothing is stored, and the message out is doubtful; it then stands in the
-    // caller's record, which is otherwise left. The queues stay.
+    // caller's record, which is otherwise left, as section 9 of docs/RULES.md has it. The queues stay.
     pub fn restart(&mut self, marked: &mut Message) -> Option<Mark>
         ensures answer { result ≡ mark_of Doubtful (view S.items self.old).out }
         ensures moved { view S.items self.new ≡ restarted (view S.items self.old) }
@@ -40,9 +40,7 @@ impl<S: Slots<Item = Message>, F: Format> Reader<S, F> {
         ensures moved { view S.items self.new ≡ with_link self.old.link self.old.stored None (view S.items self.old) }
         ensures kept { marked.new ≡ record_after result self.old.out marked.old }
     {
-        let message = self.out?;
-        *marked = message;
-        self.out = None;
+        *marked = self.out.take()?;
         Some(mark)
     }
 }

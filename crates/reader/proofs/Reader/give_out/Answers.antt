@@ -11,10 +11,6 @@ none_left : (ms : List Message) (f : Fault) → take_answer ms ≡ Err f → ms 
 none_left [] f e = refl
 none_left (m ∷ ms) f e = cc
 
-pub returns-in-Ok : goal.returns-in-Ok
-unfolding give_out
-returns-in-Ok g c = search rules
-
 pub returns-in-Err : goal.returns-in-Err
 unfolding give_out
 returns-in-Err g c =
