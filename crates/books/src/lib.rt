@@ -5,8 +5,10 @@
 mod calls;
 mod reading;
 
+ghost use Rattle.account.specs.Books.{by_class};
 ghost use Rattle.books.specs.Ready.{Ready};
 ghost use Rattle.books.specs.Seen.{arrives, ended, enters, handed, marked, nothing_seen, offered, seen, sent, with_newest};
+ghost use Rattle.std.specs.Borrow.{sem};
 ghost use Rattle.std.specs.Prelude.{◌≡◌, true, is_ok, if◌then◌else◌};
 
 use account::{OfferState, SendState};
@@ -22,12 +24,14 @@ pub struct Books {
     offers: Vec<OfferState>,
     waiting1: VecDeque<usize>,
     waiting2: VecDeque<usize>,
-    // the number of the offer that was handed out last, 0 if none was
+    // the number of the offer that was handed out last, 0 if none was, as it is counted in what the books show
     newest: usize,
     arrived: Vec<usize>,
 }
 
 impl Books {
+    ghost use Rattle.books.specs.Lending.{lends_waiting};
+
     pub fn new(heap: Global) -> Books
         ensures { seen result ≡ nothing_seen }
     {
@@ -42,7 +46,8 @@ impl Books {
         }
     }
 
-    // Room for one more entry in every book.
+    // Room for one more entry in every book. No value stands for that room: it would borrow the site, whose calls of the
+    // library come between the room and the entry.
     pub fn reserve(&mut self) -> Result<(), AllocError>
         ensures kept { seen self.new ≡ seen self.old }
         ensures ready { is_ok result ≡ true → Ready self.new }
@@ -101,23 +106,27 @@ impl Books {
     {
         self.offers.reserve(1)?;
         let number = self.offers.len() + 1;
-        match class {
-            Class::First => self.waiting1.push_back(number)?,
-            Class::Second => self.waiting2.push_back(number)?,
-        }
+        self.waiting(class).push_back(number)?;
         self.offers.push_reserved(OfferState::Waiting);
         Ok(())
+    }
+
+    // The numbers of the offers of a class that wait.
+    fn waiting(&mut self, class: Class) -> &mut VecDeque<usize>
+        ensures* writes_back { sem 𝓛 (lends_waiting self.entry class result) }
+        ensures value { result.now ≡ by_class class self.old.waiting1 self.old.waiting2 }
+    {
+        match class {
+            Class::First => &mut self.waiting1,
+            Class::Second => &mut self.waiting2,
+        }
     }
 
     // The oldest offer of a class that waits is handed out.
     fn hand_out(&mut self, class: Class)
         ensures { seen self.new ≡ handed class (seen self.old) }
     {
-        let oldest = match class {
-            Class::First => self.waiting1.pop_front(),
-            Class::Second => self.waiting2.pop_front(),
-        };
-        self.newest = oldest.unwrap_or(0);
+        self.newest = self.waiting(class).pop_front().unwrap_or(0);
         self.set_newest(OfferState::Out);
     }
 

@@ -1,14 +1,17 @@
 -- A list of flips as a loop goes through it: which are within, which were given before, and what they leave.
-use Rattle.std.proofs.Common.{◌≡◌, ℕ, zero, suc, ◌+◌, ◌/◌, ◌%◌, ◌^◌, ◌<◌, ◌≤◌, Bool, true, false, ◌&&◌, ◌||◌, eqb, ltb, List, [], ◌∷◌, ◌++◌, length, get_or, take, drop, set, sym, refl, ap, ◌∙◌, subst, ap₂, ⊎_elim, arith}
+use Rattle.std.proofs.Common.{◌≡◌, ℕ, zero, suc, ◌+◌, ◌/◌, ◌%◌, ◌^◌, ◌<◌, Bool, true, false, cond, ◌&&◌, ◌||◌, eqb, ltb, List, [], ◌∷◌, ◌++◌, length, get_or, take, set, Ok, Err, Result, sym, refl, ap, ◌∙◌, subst, ap₂, ⊎_elim, arith}
 use native.Mathlib.Nat.{zero-div}
 use lib.Bits.{bit_xor, xor_self}
 use Rattle.damage.proofs.Digits.{bit_of_pow, bit_of_xor, digit_or, xor_swap}
 use Rattle.damage.specs.Damages.{all_within, among, differs, flipped, inverted, is_within, same_bit, twice}
+use Rattle.damage.specs.declared.DamageError.{DamageError}
+use Rattle.damage.specs.declared.DamageError.TheVariants.{FlipTwice}
 use Rattle.damage.specs.declared.Flip.{Flip}
 use Rattle.frame.specs.Controls.{digit}
-use Rattle.std.proofs.lemmas.List.{drop_all, drop_more, get_or-set_other, get_or-set_same, length-set, take_more}
+use Rattle.std.proofs.lemmas.List.{get_or-set_other, get_or-set_same, length-set, take_more}
 use Rattle.std.proofs.lemmas.Bool.{and_from, and_parts, both_ways, cases_eq, eq-eqb, eqb-true, false≢true, ltb-true, lt-ltb, ne_eqb, or_cases}
 use Rattle.std.proofs.lemmas.Bool.Decides.{nat_tests}
+use Rattle.std.specs.List.{list_all}
 
 -- every flip of a list that is within
 pub within_at :
@@ -22,28 +25,11 @@ within_at n w (f ∷ fs) zero d h l = (and_parts (is_within n w f) (all_within n
 within_at n w (f ∷ fs) (suc i) d h l =
     within_at n w fs i d (and_parts (is_within n w f) (all_within n w fs) h).1 (omega arith)
 
--- whether all are within, as a loop finds it out
-pub within_more :
-    (n w : ℕ) (fs : List Flip) (i : ℕ) (d : Flip) →
-    i < length fs →
-    is_within n w (get_or fs i d) ≡ true →
-    all_within n w (drop i fs) ≡ all_within n w (drop (i + 1) fs)
+-- whether all are within, as a call of `all` finds it out
+pub within_all : (n w : ℕ) (fs : List Flip) → list_all (is_within n w) fs ≡ all_within n w fs
 unfolding all_within
-within_more n w fs i d l h =
-    ap (all_within n w) (drop_more fs i d l) ∙ ap (λ b. b && all_within n w (drop (i + 1) fs)) h
-
-pub within_not :
-    (n w : ℕ) (fs : List Flip) (i : ℕ) (d : Flip) →
-    i < length fs →
-    is_within n w (get_or fs i d) ≡ false →
-    all_within n w (drop i fs) ≡ false
-unfolding all_within
-within_not n w fs i d l h =
-    ap (all_within n w) (drop_more fs i d l) ∙ ap (λ b. b && all_within n w (drop (i + 1) fs)) h
-
-pub within_end : (n w : ℕ) (fs : List Flip) (i : ℕ) → length fs ≤ i → all_within n w (drop i fs) ≡ true
-unfolding all_within
-within_end n w fs i l = ap (all_within n w) (drop_all i fs l)
+within_all n w [] = refl
+within_all n w (f ∷ fs) = ap (λ b. is_within n w f && b) (within_all n w fs)
 
 -- a flip that is within
 pub within_parts : (n w : ℕ) (f : Flip) → is_within n w f ≡ true → (f.place < n) × (f.bit < w) × (f.bit < 16)
@@ -195,6 +181,18 @@ is_off false n e h = refl
 is_on : (b : Bool) (n : ℕ) → n ≡ digit b → eqb n 1 ≡ true → b ≡ true
 is_on true n e h = refl
 is_on false n e h = let one = eqb-true n 1 h in absurd (omega arith)
+
+-- what an inversion answers
+abbrev pub refusal : Bool → Result (Unit {0}) DamageError
+refusal b = cond b (Err FlipTwice) (Ok tt)
+
+pub refused : (b : Bool) (r : Result (Unit {0}) DamageError) (e : DamageError) → r ≡ refusal b → r ≡ Err e → (b ≡ true) × (e ≡ FlipTwice)
+refused true r e h k = (refl, cc)
+refused false r e h k = (cc, cc)
+
+pub passed : (b : Bool) (r : Result (Unit {0}) DamageError) → r ≡ refusal b → r ≡ Ok tt → b ≡ false
+passed true r h k = cc
+passed false r h k = refl
 
 -- the next flip of a list
 module _ (sent heard : List ℕ) (fs : List Flip) (i : ℕ) (d : Flip) (l : i < length fs) (so_far : Inverting sent heard (take i fs)) where

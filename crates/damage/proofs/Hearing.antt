@@ -13,6 +13,7 @@ use Rattle.std.proofs.lemmas.Nat.{pow_below}
 use Rattle.std.proofs.ByRecursion.{All-get_or, All-set, All-take}
 use Rattle.std.proofs.lemmas.List.{length-set, length-take, with_items_is, take_all}
 use Rattle.std.proofs.lemmas.Bool.{and_parts, le-leb, leb-true}
+use Rattle.std.specs.Option.{ok_or, option_map}
 use Rattle.std.specs.Vec.{with_items}
 use Rattle.std.specs.declared.alloc.Global.{Global}
 
@@ -101,6 +102,14 @@ within_guard width guard cut fs ss b h fit =
     subst D is (length r, rest_short cut ss, length_flipped fs r, still_fits width fs r two.0 (rest_fits width cut ss fit), omega arith)
 
 -- a cut that leaves off something
+pub cut_taken :
+    {X : Type 0} (now : X → List ℕ) (o : Option X) (t : Bool) (r : List ℕ) (x : X) →
+    option_map now o ≡ cond t (Some r) None →
+    Ok x ≡ ok_or o NothingCut →
+    Some (now x) ≡ cond t (Some r) None
+cut_taken now None t r x h e = cc
+cut_taken now (Some y) t r x h e = let same : x ≡ y = cc in ap (λ z. Some (now z)) same ∙ h
+
 pub cut_parts : (t : Bool) (x r : List ℕ) → Some x ≡ cond t (Some r) None → (t ≡ true) × (x ≡ r)
 cut_parts true x r h = (refl, cc)
 cut_parts false x r h = (cc, cc)

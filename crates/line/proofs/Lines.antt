@@ -8,7 +8,6 @@ use Rattle.line.specs.Ways.{Flight, Silent, View, arrived, as_sent, burst_at, ch
 use Rattle.line.specs.declared.Line.{Line}
 use Rattle.line.specs.declared.burst.Burst.{Burst}
 use Rattle.std.proofs.lemmas.List.{drop_all, drop-map, get_or_past, length-drop, length-take, map_push, take-replicate}
-use Rattle.std.proofs.lemmas.Option.{slice_get_past, slice_get_read}
 use Rattle.std.proofs.lemmas.Bool.{and_from, and_left, and_right, both_ways, cases_lt, cond-false, cond-true, eq-eqb, false≢true, le-ltb, lt-ltb, ne_eqb}
 use Rattle.std.specs.Option.{option_map}
 use Rattle.std.specs.List.{slice_get}
@@ -36,27 +35,10 @@ pub no_flights : (m n : ℕ) (bs : List Burst) → length bs ≤ 0 → flights m
 no_flights m n [] h = refl
 no_flights m n (b ∷ bs) h = absurd (omega arith)
 
--- a burst that there is not
-pub no_burst : (k : ℕ) (v : View) → length v.bursts < k → burst_at k v ≡ None
-no_burst k v h =
-    let some : eqb k 0 ≡ false = ne_eqb k 0 (λ z. omega arith) in
-    ap (λ b. cond b None (slice_get v.bursts (k - 1))) some ∙ slice_get_past v.bursts (k - 1) (omega arith)
-
 nth_map : {A B : Type 0} (f : A → B) (xs : List A) (i : ℕ) → slice_get (map f xs) i ≡ option_map f (slice_get xs i)
 nth_map f [] i = refl
 nth_map f (x ∷ xs) zero = refl
 nth_map f (x ∷ xs) (suc i) = nth_map f xs i
-
--- the burst that is read is burst k
-pub found :
-    (n q k : ℕ) (bs : List Burst) (x : Burst) →
-    0 < k →
-    k - 1 < length bs →
-    x ≡ get_or bs (k - 1) x →
-    Some (flight n x) ≡ burst_at k (record { bursts = flights n bs; quiet = q; ends = n })
-found n q k bs x h l e =
-    let some : eqb k 0 ≡ false = ne_eqb k 0 (λ z. omega arith) in
-    sym (ap (λ b. cond b None (slice_get (flights n bs) (k - 1))) some ∙ nth_map (flight n) bs (k - 1) ∙ ap (option_map (flight n)) (slice_get_read bs (length bs) (k - 1) x refl l e))
 
 off_line : (n e i : ℕ) (bs : List Burst) → n ≤ e → marked e (slice_get (flights n bs) i) ≡ false
 off_line n e i [] h = refl

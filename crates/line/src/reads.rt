@@ -27,30 +27,21 @@ impl Line {
     fn find(&self, k: usize) -> Option<&Burst>
         ensures { option_map (λ b. flight self.now.ends b.now) result ≡ burst_at k (view self.now) }
     {
-        if k == 0 || k > self.bursts.len() {
-            return None;
-        }
-        Some(&self.bursts[k - 1])
+        self.bursts.get(k.checked_sub(1)?)
     }
 
     // The symbols of burst k, as sent.
     pub fn symbols(&self, k: usize) -> Option<&[u16]>
         ensures { option_map (λ x. x.now) result ≡ option_map (λ s. s.symbols) (sent_at k (view self.now)) }
     {
-        match self.find(k) {
-            Some(burst) => Some(burst.symbols.as_slice()),
-            None => None,
-        }
+        Some(self.find(k)?.symbols.as_slice())
     }
 
     // The number that burst k was launched with.
     pub fn number(&self, k: usize) -> Option<usize>
         ensures { result ≡ option_map (λ s. s.number) (sent_at k (view self.now)) }
     {
-        match self.find(k) {
-            Some(burst) => Some(burst.number),
-            None => None,
-        }
+        Some(self.find(k)?.number)
     }
 
     // Whether burst k is on the way to an end. A burst or an end that is not there is none such.
@@ -60,10 +51,7 @@ impl Line {
         if end >= self.ends || k <= self.quiet {
             return false;
         }
-        match self.find(k) {
-            Some(burst) => burst.ways[end],
-            None => false,
-        }
+        self.find(k).is_some_and(|burst| burst.ways[end])
     }
 
     // Whether nothing is on the way to any end.

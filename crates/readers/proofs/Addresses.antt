@@ -1,8 +1,6 @@
 -- The readers of a line by their addresses: the one that is found, a change of it, and its partner in memory.
 use Rattle.std.proofs.Common.{◌≡◌, ℕ, zero, suc, ◌<◌, ◌≤◌, Bool, true, false, cond, eqb, List, [], ◌∷◌, length, get_or, set, Some, None, sym, refl, ap, ◌∙◌, subst, ap₂, arith}
-use Rattle.account.proofs.Stations.{turned_round}
 use Rattle.account.specs.Books.{Station, change, found}
-use Rattle.readers.proofs.Places.{paired_at, paired_set}
 use Rattle.readers.specs.Pairs.{Paired, Spaced, addresses}
 use Rattle.rules.specs.Messages.{within}
 use Rattle.std.proofs.ByRecursion.{All-get_or}
@@ -32,55 +30,12 @@ spaced_other (a ∷ l) (suc i) (suc j) s h g n e = spaced_other l i j s.2 (omega
 
 -- ## the reader of an address
 
-none_some : {A X : Type 0} {x : X} → None ≡ Some x → A
-none_some e = let z : ◌≡◌ {A = ℕ} 0 1 = cc in let w : ⊥ = omega arith in absurd w
-
 some_same : {X : Type 0} {x y : X} → Some x ≡ Some y → x ≡ y
 some_same e = cc
-
-all_at : (P : ℕ → Type 0) (l : List Station) (i : ℕ) (s : Station) → AllByRecursion P (addresses l) → slice_get l i ≡ Some s → P (address_of s)
-all_at P [] i s h e = none_some e
-all_at P (t ∷ l) zero s h e = subst (λ u. P (address_of u)) (some_same e) h.0
-all_at P (t ∷ l) (suc i) s h e = all_at P l i s h.1 e
-
-pub found_none : (a : ℕ) (l : List Station) → AllByRecursion (λ b. eqb b a ≡ false) (addresses l) → found a l ≡ None
-found_none a [] h = refl
-found_none a (s ∷ l) h = ap (λ z. cond z (Some s) (found a l)) h.0 ∙ found_none a l h.1
 
 pub change_none : (a : ℕ) (f : Station → Station) (l : List Station) → AllByRecursion (λ b. eqb b a ≡ false) (addresses l) → change a f l ≡ l
 change_none a f [] h = refl
 change_none a f (s ∷ l) h = ap₂ (λ z r. cond z (f s) s ∷ r) h.0 (change_none a f l h.1)
-
-pub found_at : (l : List Station) (i : ℕ) (s : Station) → Spaced (addresses l) → slice_get l i ≡ Some s → found (address_of s) l ≡ Some s
-found_at [] i s p e = none_some e
-found_at (t ∷ l) zero s p e = ap (λ z. cond z (Some t) (found (address_of s) l)) (eq-eqb (address_of t) (address_of s) (ap address_of (some_same e))) ∙ e
-found_at (t ∷ l) (suc i) s p e =
-    let n = turned_round (address_of s) (address_of t) false (all_at (λ b. eqb b (address_of t) ≡ false) l i s p.1 e) in
-    ap (λ z. cond z (Some t) (found (address_of s) l)) n ∙ found_at l i s p.2 e
-
-pub change_at : (f : Station → Station) (l : List Station) (i : ℕ) (s : Station) → Spaced (addresses l) → slice_get l i ≡ Some s → change (address_of s) f l ≡ set l i (f s)
-change_at f [] i s p e = none_some e
-change_at f (t ∷ l) zero s p e =
-    let q = some_same e in
-    let n = subst (λ u. AllByRecursion (λ b. eqb b (address_of u) ≡ false) (addresses l)) q p.1 in
-    ap₂ (λ z r. cond z (f t) t ∷ r) (eq-eqb (address_of t) (address_of s) (ap address_of q)) (change_none (address_of s) f l n) ∙ ap (λ u. f u ∷ l) q
-change_at f (t ∷ l) (suc i) s p e =
-    let n = turned_round (address_of s) (address_of t) false (all_at (λ b. eqb b (address_of t) ≡ false) l i s p.1 e) in
-    ap₂ (λ z r. cond z (f t) t ∷ r) n (change_at f l i s p.2 e)
-
--- a reader in memory and its partner on the line, which has this address
-module _ {S : Type 0} (R : S → Station → Type 0) (xs : List S) (ys : List Station) (p : Paired R xs ys) (apart : Spaced (addresses ys))
-    (i : ℕ) (x : S) (h : i < length xs) (e : x ≡ get_or xs i x) (a : ℕ) (at : (s : Station) → R x s → address_of s ≡ a) where
-  pub one_found : (s : Station) × (found a ys ≡ Some s) × R x s
-  one_found =
-      let o = paired_at R xs ys i x p h e in
-      (o.0, subst (λ b. found b ys ≡ Some o.0) (at o.0 o.2) (found_at ys i o.0 apart o.1), o.2)
-
-  pub one_changed : (x' : S) (f : Station → Station) → ((s : Station) → R x s → R x' (f s)) → Paired R (set xs i x') (change a f ys)
-  one_changed x' f k =
-      let o = paired_at R xs ys i x p h e in
-      let c = change_at f ys i o.0 apart o.1 in
-      subst (Paired R (set xs i x')) (sym (subst (λ b. change b f ys ≡ set ys i (f o.0)) (at o.0 o.2) c)) (paired_set R xs ys i x' (f o.0) p (k o.0 o.2))
 
 -- no reader in memory has this address
 pub none_there : {S : Type 0} (R : S → Station → Type 0) (xs : List S) (ys : List Station) (a : ℕ) → Paired R xs ys

@@ -1,3 +1,4 @@
 pub mod Places
 pub mod Addresses
 pub mod Found
+pub mod Lent

@@ -42,27 +42,6 @@ all_false (suc n) (suc i) = all_false n i
 -- ## two lists in pairs
 
 module _ {A B : Type 0} (R : A → B → Type 0) where
-  pub paired_length : (xs : List A) (ys : List B) → Paired R xs ys → length xs ≡ length ys
-  paired_length [] [] p = refl
-  paired_length [] (y ∷ ys) p = absurd p
-  paired_length (x ∷ xs) [] p = absurd p
-  paired_length (x ∷ xs) (y ∷ ys) p = ap suc (paired_length xs ys p.1)
-
-  -- the partner of the one at a place
-  pub paired_at : (xs : List A) (ys : List B) (i : ℕ) (x : A) → Paired R xs ys → i < length xs → x ≡ get_or xs i x
-      → (y : B) × (slice_get ys i ≡ Some y) × R x y
-  paired_at [] ys i x p h e = absurd (omega arith)
-  paired_at (z ∷ xs) [] i x p h e = absurd p
-  paired_at (z ∷ xs) (y ∷ ys) zero x p h e = (y, refl, rw e p.0)
-  paired_at (z ∷ xs) (y ∷ ys) (suc i) x p h e = paired_at xs ys i x p.1 (omega arith) e
-
-  pub paired_set : (xs : List A) (ys : List B) (i : ℕ) (x : A) (y : B) → Paired R xs ys → R x y → Paired R (set xs i x) (set ys i y)
-  paired_set [] [] i x y p r = tt
-  paired_set [] (z ∷ ys) i x y p r = absurd p
-  paired_set (z ∷ xs) [] i x y p r = absurd p
-  paired_set (w ∷ xs) (z ∷ ys) zero x y p r = (r, p.1)
-  paired_set (w ∷ xs) (z ∷ ys) (suc i) x y p r = (p.0, paired_set xs ys i x y p.1 r)
-
   pub paired_push : (xs : List A) (ys : List B) (x : A) (y : B) → Paired R xs ys → R x y → Paired R (xs ++ x ∷ []) (ys ++ y ∷ [])
   paired_push [] [] x y p r = (r, tt)
   paired_push [] (z ∷ ys) x y p r = absurd p

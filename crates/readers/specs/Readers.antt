@@ -1,5 +1,5 @@
 -- Readers by their addresses, in memory and on the line.
-use Rattle.std.specs.Prelude.{◌≡◌, ℕ, suc, Bool, false, cond, not, List, [], ◌∷◌, ◌++◌, map, Some, None, vec_items, Option, Result, ◌==◌, slice_index_or}
+use Rattle.std.specs.Prelude.{◌≡◌, ℕ, suc, cond, List, [], ◌∷◌, ◌++◌, map, Some, None, vec_items, Option, IfSome, ◌==◌}
 use Rattle.account.specs.Books as account
 use Rattle.account.specs.Books.{newest_hand_out}
 use Rattle.account.specs.Line.{new_station}
@@ -8,9 +8,7 @@ use Rattle.books.specs.Shows.{Shows}
 use Rattle.readers.specs.declared.Readers.{Readers}
 use Rattle.rules.specs.Reader.{Reader}
 use Rattle.rules.specs.declared.records.ReaderPlan.{ReaderPlan}
-use Rattle.station.specs.Refusals.{no_memory}
 use Rattle.station.specs.Shown.{Ready, books_of, reader_of}
-use Rattle.station.specs.declared.Refusal.{Refusal}
 use Rattle.station.specs.declared.Station.{Station}
 use Rattle.std.specs.Option.{option_map}
 
@@ -41,19 +39,19 @@ abbrev pub at : ℕ → List Kept → Option Kept
 at a [] = None
 at a (x ∷ l) = cond (x.reader.address == a) (Some x) (at a l)
 
+-- the same of the readers as the code has them
+abbrev pub station_at : {F : Type 0} → ℕ → List (Station F) → Option (Station F)
+station_at a [] = None
+station_at a (x ∷ l) = cond ((reader_of x).address == a) (Some x) (station_at a l)
+
+-- the readers after the one of an address, if there is one, became another
+abbrev pub replaced : {F : Type 0} → ℕ → Station F → List (Station F) → List (Station F)
+replaced a w [] = []
+replaced a w (x ∷ l) = cond ((reader_of x).address == a) (w ∷ l) (x ∷ replaced a w l)
+
 -- it has room in memory for one more entry in every book
 abbrev pub ReadyAt : {F : Type 0} → ℕ → Readers F → Type 0
-ReadyAt {F} a r = (i : ℕ) (x : Station F) → place_of a (readers r) ≡ Some i → x ≡ slice_index_or (vec_items r.all) i x → Ready x
-
--- whether a call, if there was one, was refused for want of memory
-abbrev pub lacks_memory : {A : Type 0} → Option (Result A Refusal) → Bool
-lacks_memory None = false
-lacks_memory (Some r) = no_memory r
-
--- whether there was a call: a reader, and memory for it
-abbrev pub is_called : {A : Type 0} → Option (Result A Refusal) → Bool
-is_called None = false
-is_called (Some r) = not (no_memory r)
+ReadyAt a r = IfSome (station_at a (vec_items r.all)) Ready
 
 -- ## on the line
 

@@ -17,8 +17,8 @@ impl<F: Format> Readers<F> {
         ensures same { readers self.new ≡ readers self.old }
         ensures ready { is_ok result ≡ true → ReadyAt address self.new }
     {
-        match self.find(address) {
-            Some(i) => self.all[i].reserve(),
+        match self.get_mut(address) {
+            Some(station) => station.reserve(),
             None => Ok(()),
         }
     }
@@ -28,8 +28,8 @@ impl<F: Format> Readers<F> {
         ensures shown { Changes ShowsReader (readers self.old) (readers self.new) (change address (λ s. (if is_ok result then asked request s else s))) }
         ensures sure { ReadyAt address self.old → is_ok result ≡ true }
     {
-        match self.find(address) {
-            Some(i) => self.all[i].asked(request),
+        match self.get_mut(address) {
+            Some(station) => station.asked(request),
             None => Ok(()),
         }
     }
@@ -45,8 +45,8 @@ impl<F: Format> Readers<F> {
         ensures shown { (e : Ending) → outcome_of e ≡ outcome → Changes ShowsReader (readers self.old) (readers self.new) (change address (λ s. (if is_ok result then ended number request e s else s))) }
         ensures sure { ReadyAt address self.old → is_ok result ≡ true }
     {
-        match self.find(address) {
-            Some(i) => self.all[i].ended(number, request, outcome),
+        match self.get_mut(address) {
+            Some(station) => station.ended(number, request, outcome),
             None => Ok(()),
         }
     }
@@ -55,19 +55,15 @@ impl<F: Format> Readers<F> {
     pub fn newest_send(&self, address: u8) -> usize
         ensures { Tells ShowsReader (readers self.now) (λ ys. result ≡ newest_send (found address ys)) }
     {
-        match self.find(address) {
-            Some(i) => self.all[i].books().sends().len(),
-            None => 0,
-        }
+        self.get(address)
+            .map_or(0, |station| station.books().sends().len())
     }
 
     // The number of what a reader handed out last, 0 if there is nothing.
     pub fn newest_hand_out(&self, address: u8) -> usize
         ensures { Tells ShowsReader (readers self.now) (λ ys. result ≡ handed_by (found address ys)) }
     {
-        match self.find(address) {
-            Some(i) => self.all[i].books().newest(),
-            None => 0,
-        }
+        self.get(address)
+            .map_or(0, |station| station.books().newest())
     }
 }

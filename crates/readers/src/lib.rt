@@ -1,15 +1,15 @@
 // The readers on a simulated line, each with its books, by their addresses.
 #![tactic(auto)]
 
-mod calls;
 mod exchanges;
 
-ghost use Rattle.account.specs.Line.{new_station};
-ghost use Rattle.readers.specs.Readers.{Added, at, kept, place_of, readers};
-ghost use Rattle.std.specs.Prelude.{◌≡◌, ◌<◌, [], IfSome, vec_len, MatchResult};
+ghost use Rattle.readers.specs.Readers.{Added, at, kept, place_of, readers, station_at};
+ghost use Rattle.std.specs.Borrow.{sem};
+ghost use Rattle.std.specs.Prelude.{◌≡◌, ◌<◌, [], IfSome, slice_index_or, vec_len, MatchResult};
 ghost use Rattle.std.specs.Option.{option_map};
 
 use frame::Format;
+use rules::records::ReaderPlan;
 use station::Station;
 use std::alloc::{AllocError, Global};
 
@@ -20,6 +20,8 @@ pub struct Readers<F> {
 }
 
 impl<F: Format> Readers<F> {
+    ghost use Rattle.readers.specs.Lending.{lends_place, lends_station};
+
     pub fn new(heap: Global) -> Readers<F>
         ensures { readers result ≡ [] }
     {
@@ -28,19 +30,12 @@ impl<F: Format> Readers<F> {
         }
     }
 
-    // One reader more, at this address and with so many slots.
-    pub fn join(
-        &mut self,
-        heap: Global,
-        address: u8,
-        slots1: usize,
-        slots2: usize,
-        slots: usize,
-    ) -> Result<(), AllocError>
-        ensures { MatchResult result (λ _. Added (record { address = address; class1 = slots1; class2 = slots2; inbox = slots }) (readers self.old) (readers self.new)) (λ _. readers self.new ≡ readers self.old) }
+    // One reader more, by its plan.
+    pub fn join(&mut self, heap: Global, plan: ReaderPlan) -> Result<(), AllocError>
+        ensures { MatchResult result (λ _. Added plan (readers self.old) (readers self.new)) (λ _. readers self.new ≡ readers self.old) }
     {
         self.all.reserve(1)?;
-        let station = Station::new(heap, address, slots1, slots2, slots)?;
+        let station = Station::new(heap, plan)?;
         self.all.push_reserved(station);
         Ok(())
     }
@@ -50,12 +45,9 @@ impl<F: Format> Readers<F> {
         ensures place { result ≡ place_of address (readers self.now) }
         ensures inside { IfSome result (λ i. i < vec_len self.now.all) }
     {
-        for i in 0..self.all.len() {
-            if self.all[i].address() == address {
-                return Some(i);
-            }
-        }
-        None
+        self.all
+            .iter()
+            .position(|station| station.address() == address)
     }
 
     // The reader of this address.
@@ -66,5 +58,25 @@ impl<F: Format> Readers<F> {
             Some(i) => Some(&self.all[i]),
             None => None,
         }
+    }
+
+    // The reader of this address, to call.
+    pub fn get_mut(&mut self, address: u8) -> Option<&mut Station<F>>
+        ensures* writes_back { sem 𝓛 (lends_station F.row self.entry address result) }
+        ensures value { option_map (λ x. x.now) result ≡ station_at address self.old.all.items }
+        ensures reader { option_map (λ x. kept x.now) result ≡ at address (readers self.old) }
+    {
+        match self.find(address) {
+            Some(i) => Some(self.station_mut(i)),
+            None => None,
+        }
+    }
+
+    fn station_mut(&mut self, place: usize) -> &mut Station<F>
+        requires { place < vec_len self.old.all }
+        ensures* writes_back { sem 𝓛 (lends_place F.row self.entry place result) }
+        ensures value { result.now ≡ slice_index_or self.old.all.items place result.now }
+    {
+        &mut self.all[place]
     }
 }

@@ -4,28 +4,9 @@ use Rattle.account.specs.Account.{Account, TwoEndsOver}
 use Rattle.account.specs.Books.{Station, found}
 use Rattle.account.specs.Line.{Run, World, begin, new_world}
 use Rattle.frame.specs.declared.Format.{Ghosts}
-use Rattle.readers.specs.Pairs.{Paired}
-use Rattle.readers.specs.Readers.{Kept, ShowsReader, at}
+use Rattle.readers.proofs.Found.{Partners, partners}
+use Rattle.readers.specs.Readers.{Kept, at}
 use Rattle.site.specs.Shown.{Accounted, Memory, Since, Stands}
-
--- the reader in memory, and the one on the line
-abbrev pub Partners : ℕ → Option Kept → List Station → Type 0
-Partners a None ys = found a ys ≡ None
-Partners a (Some x) ys = (s : Station) × (found a ys ≡ Some s) × ShowsReader x s
-
-pub partners : (a : ℕ) (xs : List Kept) (ys : List Station) → Paired ShowsReader xs ys → Partners a (at a xs) ys
-partners a [] [] p = refl
-partners a [] (y ∷ ys) p = absurd p
-partners a (x ∷ xs) [] p = absurd p
-partners a (x ∷ xs) (y ∷ ys) p = go (eqb x.reader.address a) (ap (λ r. eqb r.address a) (sym p.0.0)) (partners a xs ys p.1)
-  where
-    later : (o : Option Kept) → eqb y.reader.address a ≡ false → Partners a o ys → Partners a o (y ∷ ys)
-    later None e q = ap (λ z. cond z (Some y) (found a ys)) e ∙ q
-    later (Some k) e q = (q.0, ap (λ z. cond z (Some y) (found a ys)) e ∙ q.1, q.2)
-
-    go : (z : Bool) → eqb y.reader.address a ≡ z → Partners a (at a xs) ys → Partners a (cond z (Some x) (at a xs)) (y ∷ ys)
-    go true e q = (y, ap (λ z. cond z (Some y) (found a ys)) e, p.0)
-    go false e q = later (at a xs) e q
 
 module _ {X : Type 0} (F : Ghosts X) where
   since_run : (started : Bool) (v w : World) → Since F started v w → Run F v w

@@ -5,3 +5,4 @@ pub mod Steps
 pub mod Fetched
 pub mod Accounts
 pub mod Turns
+pub mod Placed

@@ -21,7 +21,7 @@ use Rattle.line.proofs.Ways.{on_way_parts}
 use Rattle.line.specs.Ways.{Silent, View, arrived, as_sent, joined, launched, on_way, open_to_join, sent_at}
 use Rattle.readers.proofs.Found.{no_partner, place_some}
 use Rattle.readers.specs.Pairs.{Changes, Paired, Tells, addresses}
-use Rattle.readers.specs.Readers.{Added, Kept, ReadyAt, ShowsReader, at, is_called, place_of}
+use Rattle.readers.specs.Readers.{Added, Kept, ReadyAt, ShowsReader, at, place_of}
 use Rattle.readers.specs.declared.Readers.{Readers}
 use Rattle.rules.specs.Concentrator as co
 use Rattle.rules.specs.Concentrator.{Asking, transmission}
@@ -304,7 +304,7 @@ module _ {X : Type 0} (F : Ghosts X) where
   pub offers_come : (m m' : Memory) (xs : List Kept) (a class : ℕ) (os : List ℕ) → Octets os → (f : Kept → Result (Unit {0}) Refusal) (ro : Result (Unit {0}) Refusal) (r : Result (Unit {0}) Trouble)
       → r ≡ trouble_of (Some ro) → m' ≡ settled (is_made r) (with_readers xs m)
       → Changes ShowsReader m.readers xs (change a (λ s. cond (refusals.no_memory ro) s (offered (rd.offer class os s.reader) s)))
-      → (is_called (Some ro) ≡ false → xs ≡ m.readers)
+      → (not (refusals.no_memory ro) ≡ false → xs ≡ m.readers)
       → Some ro ≡ option_map (λ x. cond (refusals.no_memory ro) (Err refusal.Memory) (f x)) (at a m.readers)
       → Comes r (trouble_of (option_map f (at a m.readers))) m m' (λ w. line.offers a class os)
   offers_come m m' xs a class os oct f (Ok u) r is e c n h =

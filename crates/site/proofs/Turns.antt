@@ -1,5 +1,5 @@
 -- A burst that a reader hears: what it answers and comes to.
-use Rattle.std.proofs.Common.{◌≡◌, ℕ, suc, ◌+◌, ◌-◌, Bool, true, false, cond, eqb, ltb, List, [], ◌∷◌, ◌++◌, length, take, drop, Some, None, Ok, Err, Option, Result, sym, refl, ap, ◌∙◌, subst, arith, MatchOption}
+use Rattle.std.proofs.Common.{◌≡◌, ℕ, suc, ◌+◌, ◌-◌, Bool, true, false, cond, not, eqb, ltb, List, [], ◌∷◌, ◌++◌, length, take, drop, Some, None, Ok, Err, Option, Result, sym, refl, ap, ◌∙◌, subst, arith, MatchOption}
 use lib.Seq.{take-append_seam}
 use Rattle.account.proofs.Calls.{Turns, turns}
 use Rattle.account.proofs.Stations.{all_found, all_of}
@@ -16,13 +16,13 @@ use Rattle.line.specs.Ways.{View, arrived, as_sent, changed_at, landed, launched
 use Rattle.reader.specs.Hearing.{heard_answer, heard_buffer}
 use Rattle.reader.specs.declared.Heard.{Heard}
 use Rattle.readers.proofs.Addresses.{change_alike, change_nothing}
+use Rattle.readers.proofs.Found.{Partners, partners}
 use Rattle.readers.specs.Pairs.{Changes, Paired, Spaced, Tells, addresses}
-use Rattle.readers.specs.Readers.{Kept, ShowsReader, at, handed_by, is_called, place_of}
+use Rattle.readers.specs.Readers.{Kept, ShowsReader, at, handed_by, place_of}
 use Rattle.rules.specs.Reader as rd
 use Rattle.rules.specs.Reader.{Reader, Turn, mark_heard, record_after, took_in}
 use Rattle.rules.specs.Telegrams.{carried, telegram_read}
 use Rattle.rules.specs.declared.message.Message.{Message}
-use Rattle.site.proofs.Accounts.{Partners, partners}
 use Rattle.site.proofs.Addresses.{addresses_changed, lawful_spaced, turn_address}
 use Rattle.site.proofs.Events.{is_heard, reader_answers, reader_refused, sent_is}
 use Rattle.site.proofs.Steps.{filled, reader_end}
@@ -178,7 +178,7 @@ module _ {X : Type 0} (F : Ghosts X) (short : Bool) (heard : List ℕ) where
       turn_goes : (ho : Result Heard Refusal) → ho ≡ cond (refusals.no_memory ho) (Err refusal.Memory) (told (heard_answer F (turn_of x.reader)))
           → new ≡ cond (refusals.no_memory ho) old (record_after (mark_heard (turn_of x.reader)) x.reader.out old)
           → b₁ ≡ cond (refusals.no_memory ho) b₀ (heard_buffer F (turn_of x.reader) b₀)
-          → Changes ShowsReader m.readers xs (change a (λ s. cond (refusals.no_memory ho) s (after n s))) → (is_called (Some ho) ≡ false → xs ≡ m.readers)
+          → Changes ShowsReader m.readers xs (change a (λ s. cond (refusals.no_memory ho) s (after n s))) → (not (refusals.no_memory ho) ≡ false → xs ≡ m.readers)
           → Answered a i (suc j) ho b₁ (with_readers xs m) m' r → TurnedSo m m' a j (suc j) (Some x) old new r
       turn_goes (Err refusal.Memory) h kept b c u q =
           subst (λ z. TurnedSo m m' a j (suc j) (Some x) old new z) (sym q.0) (refl, kept, q.1 ∙ ap (λ l. with_readers l m) (u refl))
@@ -205,7 +205,7 @@ pub record Parts {X : Type 0} (F : Ghosts X) (m : Memory) (short : Bool) (burst 
   pub kept_so : MatchOption (at a m.readers) (new ≡ old) (λ x. new ≡ cond (refusals.no_memory ho) old (record_after (mark_heard (turn_of F short burst x.reader)) x.reader.out old))
   pub written_so : MatchOption (at a m.readers) (b₁ ≡ b₀) (λ x. b₁ ≡ cond (refusals.no_memory ho) b₀ (heard_buffer F (turn_of F short burst x.reader) b₀))
   pub shown_so : Changes ShowsReader m.readers xs (change a (λ s. cond (refusals.no_memory ho) s (after F short burst number s)))
-  pub unmade_so : is_called (Some ho) ≡ false → xs ≡ m.readers
+  pub unmade_so : not (refusals.no_memory ho) ≡ false → xs ≡ m.readers
   pub answered_so : Answered a end k ho b₁ (with_readers xs m) m' r
 
 module _ {X : Type 0} (F : Ghosts X) (size : SizeLaw F.width F.longest F.frame) (m m₁ m' : Memory) (places : ℕ) (burst heard b₀ b₁ : List ℕ) (number : ℕ) (xs : List Kept) (a p k : ℕ)

@@ -1,8 +1,25 @@
 -- Why a call of a site was refused or not made.
 use Rattle.std.specs.Prelude.{Bool, true, false, Ok, Err, Result}
+use Rattle.damage.specs.declared.DamageError.{DamageError}
+use Rattle.damage.specs.declared.DamageError.TheVariants as damage
 use Rattle.fault.specs.declared.Fault.{Fault}
 use Rattle.site.specs.declared.trouble.Trouble.{Trouble}
 use Rattle.site.specs.declared.trouble.Trouble.TheVariants.{Refused, NotOnWay, NotSilent, Damaged, NoReader, Joined, Closed, OutOfMemory}
+use Rattle.station.specs.declared.Refusal.{Refusal}
+use Rattle.station.specs.declared.Refusal.TheVariants as refusal
+
+-- why a reader's call was declined
+abbrev pub declined_as : Refusal → Trouble
+declined_as (refusal.Fault f) = Refused f
+declined_as refusal.Memory = OutOfMemory
+
+-- why damage was not done
+abbrev pub undone_as : DamageError → Trouble
+undone_as damage.NothingCut = Damaged damage.NothingCut
+undone_as damage.FlipOutside = Damaged damage.FlipOutside
+undone_as damage.FlipTwice = Damaged damage.FlipTwice
+undone_as damage.BeyondGuard = Damaged damage.BeyondGuard
+undone_as damage.OutOfMemory = OutOfMemory
 
 -- a call of the library was made: a refused one was
 abbrev pub is_made : {A : Type 0} → Result A Trouble → Bool

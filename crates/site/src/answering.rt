@@ -75,27 +75,18 @@ impl<F: Format> Site<F> {
         ensures kept { marked.new ≡ marked_by result (at address (seen self.old).readers) marked.old }
         ensures steps { Leads F.Format (is_made result) (seen self.old) (seen self.new) (λ w. reader_hears (nat_lt places F.longest) address (k - 1) (burst_of k w) (heard_of damage.now.cut damage.now.flips.items (symbols_of (sent_at k (seen self.old).line)))) }
     {
-        let Some(place) = self.readers.find(address) else {
-            return Err(Trouble::NoReader);
-        };
+        let place = self.readers.find(address).ok_or(Trouble::NoReader)?;
         let end = place + 1;
         if !self.line.is_on_way(end, k) {
             return Err(Trouble::NotOnWay);
         }
-        let heard = match self.listen(k, damage) {
-            Ok(heard) => heard,
-            Err(trouble) => return Err(trouble),
-        };
-        let Ok(mut buffer) = self.prepare(address, places) else {
-            return Err(Trouble::OutOfMemory);
-        };
+        let heard = self.listen(k, damage)?;
+        let mut buffer = self.prepare(address, places)?;
         let number = self.number_of(k);
-        match self
-            .readers
-            .hear(address, number, &heard, marked, &mut buffer)
-        {
-            Some(answer) => self.answer(address, end, k, answer, buffer),
-            None => Err(Trouble::NoReader),
-        }
+        let Some(station) = self.readers.get_mut(address) else {
+            return Err(Trouble::NoReader);
+        };
+        let answer = station.hear(number, &heard, marked, &mut buffer);
+        self.answer(address, end, k, answer, buffer)
     }
 }

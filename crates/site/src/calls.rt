@@ -22,11 +22,7 @@ use station::Refusal;
 // What bytes are: said of all of a slice, for the account.
 pub(crate) fn are_octets(octets: &[u8])
     ensures { Octets octets.now }
-{
-    for octet in octets {
-        let _octet = *octet;
-    }
-}
+{}
 
 impl<F: Format> Site<F> {
     // One message more of a reader for the concentrator: 15, 16, 21.
@@ -35,10 +31,11 @@ impl<F: Format> Site<F> {
         ensures steps { Leads F.Format (is_made result) (seen self.old) (seen self.new) (λ w. offers address class octets.now) }
     {
         are_octets(octets);
-        match self.readers.offer(address, class, octets) {
-            Some(answer) => self.settle(answer),
-            None => Err(Trouble::NoReader),
-        }
+        let Some(station) = self.readers.get_mut(address) else {
+            return Err(Trouble::NoReader);
+        };
+        let answer = station.offer(class, octets);
+        self.settle(answer)
     }
 
     // A call of a reader that was not refused for want of memory was made.
@@ -46,17 +43,11 @@ impl<F: Format> Site<F> {
         ensures answer { result ≡ trouble_of (Some answer) }
         ensures moved { seen self.new ≡ settled (is_made result) (seen self.old) }
     {
-        let Err(refusal) = answer else {
-            self.started = true;
-            return Ok(());
-        };
-        match refusal {
-            Refusal::Fault(fault) => {
-                self.started = true;
-                Err(Trouble::Refused(fault))
-            }
-            Refusal::Memory => Err(Trouble::OutOfMemory),
+        if let Err(Refusal::Memory) = answer {
+            return Err(Trouble::OutOfMemory);
         }
+        self.started = true;
+        Ok(answer?)
     }
 
     // The oldest message of a reader's inbox, which is taken out: 22.
@@ -64,14 +55,12 @@ impl<F: Format> Site<F> {
         ensures answer { result ≡ fault_of (option_map (λ x. take_answer x.reader.inbox.records) (at address (seen self.old).readers)) }
         ensures steps { Leads F.Format (is_made result) (seen self.old) (seen self.new) (λ w. collects address) }
     {
-        let Some(collected) = self.readers.collect(address) else {
+        let Some(station) = self.readers.get_mut(address) else {
             return Err(Trouble::NoReader);
         };
+        let collected = station.collect();
         self.started = true;
-        match collected {
-            Ok(message) => Ok(message),
-            Err(fault) => Err(Trouble::Refused(fault)),
-        }
+        Ok(collected?)
     }
 
     // A reader starts again; the message out, which is doubtful then, stands in the caller's record.
@@ -80,13 +69,12 @@ impl<F: Format> Site<F> {
         ensures kept { MatchOption (at address (seen self.old).readers) (marked.new ≡ marked.old) (λ x. marked.new ≡ record_after (mark_of Doubtful x.reader.out) x.reader.out marked.old) }
         ensures steps { Leads F.Format (is_made result) (seen self.old) (seen self.new) (λ w. restarts address) }
     {
-        match self.readers.restart(address, marked) {
-            Some(mark) => {
-                self.started = true;
-                Ok(mark)
-            }
-            None => Err(Trouble::NoReader),
-        }
+        let Some(station) = self.readers.get_mut(address) else {
+            return Err(Trouble::NoReader);
+        };
+        let mark = station.restart(marked);
+        self.started = true;
+        Ok(mark)
     }
 
     // Takes the oldest report: 22.

@@ -11,15 +11,16 @@ ghost use Rattle.site.specs.Shown.{burst_of};
 ghost use Rattle.site.specs.Sites.{Hears, Leads, Listened, ReadyFor, at_end, number_of, seen, symbols_of, undamaged};
 ghost use Rattle.site.specs.Troubles.{is_made, no_memory, told};
 ghost use Rattle.site.specs.declared.trouble.Trouble.TheVariants as trouble;
-ghost use Rattle.std.specs.Prelude.{◌≡◌, suc, ◌-◌, true, IfOk, if◌then◌else◌, Ok, Err};
+ghost use Rattle.std.specs.Prelude.{◌≡◌, suc, ◌-◌, true, IfOk, if◌then◌else◌, Ok, Err, OnOk};
 ghost use Rattle.std.specs.Option.{option_map};
 
 use crate::sending::station_of;
 use crate::{Site, Trouble};
-use damage::{Damage, DamageError};
+use damage::Damage;
 use fault::Fault;
 use frame::Format;
 use rules::records::{Exchange, Outcome};
+use std::alloc::AllocError;
 
 impl<F: Format> Site<F> {
     // What is heard of burst k with some damage.
@@ -28,29 +29,22 @@ impl<F: Format> Site<F> {
         ensures damaged { IfOk result (λ v. Fits F.width (symbols_of (sent_at k (seen self.now).line)) → Damaged F.width F.guard (symbols_of (sent_at k (seen self.now).line)) v.items) }
     {
         let symbols = self.line.symbols(k).unwrap_or(&[]);
-        match damage::heard::<F>(self.heap, symbols, damage) {
-            Ok(heard) => Ok(heard),
-            Err(DamageError::OutOfMemory) => Err(Trouble::OutOfMemory),
-            Err(error) => Err(Trouble::Damaged(error)),
-        }
+        Ok(damage::heard::<F>(self.heap, symbols, damage)?)
     }
 
     // The number of burst k, 0 if there is none.
     pub(crate) fn number_of(&self, k: usize) -> usize
         ensures { result ≡ number_of (sent_at k (seen self.now).line) }
     {
-        match self.line.number(k) {
-            Some(number) => number,
-            None => 0,
-        }
+        self.line.number(k).unwrap_or(0)
     }
 
     // Room in memory for the end of an exchange.
-    fn make_ready(&mut self, exchange: Option<Exchange>) -> bool
+    fn make_ready(&mut self, exchange: Option<Exchange>) -> Result<(), AllocError>
         ensures same { seen self.new ≡ seen self.old }
-        ensures ready { result ≡ true → ReadyFor exchange self.new.readers }
+        ensures ready { OnOk result (ReadyFor exchange self.new.readers) }
     {
-        self.readers.reserve(station_of(exchange)).is_ok()
+        self.readers.reserve(station_of(exchange))
     }
 
     // Burst k was heard at the concentrator, with this outcome of the exchange that was open.
@@ -66,13 +60,9 @@ impl<F: Format> Site<F> {
         let number = self.number_of(k);
         let _ = self.line.arrive(0, k);
         self.started = true;
-        match outcome {
-            Ok(outcome) => {
-                self.end(exchange, number, outcome);
-                Ok(outcome)
-            }
-            Err(fault) => Err(Trouble::Refused(fault)),
-        }
+        let outcome = outcome?;
+        self.end(exchange, number, outcome);
+        Ok(outcome)
     }
 
     // The concentrator hears burst k: read's faults, 13, 8, 9, 10.
@@ -83,14 +73,9 @@ impl<F: Format> Site<F> {
         if !self.line.is_on_way(0, k) {
             return Err(Trouble::NotOnWay);
         }
-        let heard = match self.listen(k, damage) {
-            Ok(heard) => heard,
-            Err(trouble) => return Err(trouble),
-        };
+        let heard = self.listen(k, damage)?;
         let exchange = self.concentrator.exchange();
-        if !self.make_ready(exchange) {
-            return Err(Trouble::OutOfMemory);
-        }
+        self.make_ready(exchange)?;
         let outcome = self.concentrator.hear(&heard);
         self.conclude(exchange, k, outcome)
     }
@@ -112,9 +97,7 @@ impl<F: Format> Site<F> {
         ensures answer { result ≡ at_end (option_map suc (place_of address (seen self.old).readers)) (λ end. (if on_way end k (seen self.old).line then Ok tt else Err trouble.NotOnWay)) }
         ensures steps { Leads F.Format (is_made result) (seen self.old) (seen self.new) (λ w. loses address (k - 1) (burst_of k w)) }
     {
-        let Some(place) = self.readers.find(address) else {
-            return Err(Trouble::NoReader);
-        };
+        let place = self.readers.find(address).ok_or(Trouble::NoReader)?;
         if self.line.arrive(place + 1, k) {
             Ok(())
         } else {

@@ -22,7 +22,7 @@ use frame::Format;
 use line::{Line, MOST_ENDS};
 use queue::Slots;
 use readers::Readers;
-use rules::records::{Arrival, Report};
+use rules::records::{Arrival, ConcentratorPlan, ReaderPlan, Report};
 use std::alloc::Global;
 pub use trouble::{Answer, TimedOut, Trouble};
 
@@ -37,28 +37,17 @@ pub struct Site<F> {
 }
 
 impl<F: Format> Site<F> {
-    // A concentrator with so many repetitions and slots, and no reader yet: 23, 24.
-    pub fn begin(
-        heap: Global,
-        repetitions: u8,
-        reports: usize,
-        arrivals: usize,
-    ) -> Result<Site<F>, Trouble>
-        ensures answer { made_of result ≡ (if no_memory result then Err trouble.OutOfMemory else told (concentrator_check repetitions arrivals reports)) }
-        ensures stands { IfOk result (λ s. Stands F.Format (seen s) (new_world repetitions arrivals reports [])) }
+    // A concentrator by its plan, and no reader yet: 23, 24.
+    pub fn begin(heap: Global, plan: ConcentratorPlan) -> Result<Site<F>, Trouble>
+        ensures answer { made_of result ≡ (if no_memory result then Err trouble.OutOfMemory else told (concentrator_check plan.repetitions plan.arrivals plan.reports)) }
+        ensures stands { IfOk result (λ s. Stands F.Format (seen s) (new_world plan.repetitions plan.arrivals plan.reports [])) }
     {
-        if let Err(fault) = check(repetitions, arrivals, reports) {
-            return Err(Trouble::Refused(fault));
-        }
-        let Ok(arrivals) = vec![in heap; Arrival::BLANK; arrivals] else {
-            return Err(Trouble::OutOfMemory);
-        };
-        let Ok(reports) = vec![in heap; Report::BLANK; reports] else {
-            return Err(Trouble::OutOfMemory);
-        };
+        check(plan)?;
+        let arrivals = vec![in heap; Arrival::BLANK; plan.arrivals]?;
+        let reports = vec![in heap; Report::BLANK; plan.reports]?;
         Ok(Site {
             heap,
-            concentrator: Concentrator::over(repetitions, arrivals, reports),
+            concentrator: Concentrator::over(plan.repetitions, arrivals, reports),
             readers: Readers::new(heap),
             line: Line::new(heap),
             started: false,
@@ -72,32 +61,20 @@ impl<F: Format> Site<F> {
         !self.started && self.line.count() == 0 && self.line.ends() < MOST_ENDS
     }
 
-    // One reader more, at an address of its own and with so many slots: 14, 24.
-    pub fn join(
-        &mut self,
-        address: u8,
-        slots1: usize,
-        slots2: usize,
-        slots: usize,
-    ) -> Result<(), Trouble>
-        ensures answer { result ≡ (if no_memory result then Err trouble.OutOfMemory else join_answer (record { address = address; class1 = slots1; class2 = slots2; inbox = slots }) (seen self.old)) }
-        ensures stands { MatchResult result (λ _. (w : World) → Stands F.Format (seen self.old) w → Stands F.Format (seen self.new) (with_reader (record { address = address; class1 = slots1; class2 = slots2; inbox = slots }) w)) (λ _. seen self.new ≡ seen self.old) }
+    // One reader more, at an address of its own, by its plan: 14, 24.
+    pub fn join(&mut self, plan: ReaderPlan) -> Result<(), Trouble>
+        ensures answer { result ≡ (if no_memory result then Err trouble.OutOfMemory else join_answer plan (seen self.old)) }
+        ensures stands { MatchResult result (λ _. (w : World) → Stands F.Format (seen self.old) w → Stands F.Format (seen self.new) (with_reader plan w)) (λ _. seen self.new ≡ seen self.old) }
     {
         if !self.is_open() {
             return Err(Trouble::Closed);
         }
-        if let Some(_) = self.readers.find(address) {
+        if self.readers.find(plan.address).is_some() {
             return Err(Trouble::Joined);
         }
-        if let Err(fault) = reader::check(address, slots1, slots2, slots) {
-            return Err(Trouble::Refused(fault));
-        }
-        match self.readers.join(self.heap, address, slots1, slots2, slots) {
-            Ok(()) => {
-                let _ = self.line.join();
-                Ok(())
-            }
-            Err(_) => Err(Trouble::OutOfMemory),
-        }
+        reader::check(plan.address, plan.class1, plan.class2, plan.inbox)?;
+        self.readers.join(self.heap, plan)?;
+        let _ = self.line.join();
+        Ok(())
     }
 }

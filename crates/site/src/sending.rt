@@ -1,9 +1,9 @@
 // What the concentrator sends: requests, and what a time-out repeats.
-ghost use Rattle.account.specs.Line.{requests, times_out};
+ghost use Rattle.account.specs.Line.{OctetsAsked, requests, times_out};
 ghost use Rattle.line.specs.Lines.{room};
 ghost use Rattle.line.specs.Ways.{Silent, as_sent, launched};
 ghost use Rattle.readers.specs.Readers.{ReadyAt};
-ghost use Rattle.rules.specs.Concentrator.{for_poll, for_reset, for_send, for_status, request, time_out};
+ghost use Rattle.rules.specs.Concentrator.{asking, request, time_out};
 ghost use Rattle.site.specs.Sites.{Concluded, Leads, Noted, ReadyFor, ReadyOnce, Repeats, Transmitted, next_burst, seen, sent_as, station_of, timed_as, with_line};
 ghost use Rattle.site.specs.Troubles.{is_made, no_memory, not_silent};
 ghost use Rattle.site.specs.declared.trouble.Trouble.TheVariants as trouble;
@@ -14,7 +14,7 @@ use crate::{Site, TimedOut, Trouble};
 use fault::Fault;
 use frame::Format;
 use queue::Slots;
-use rules::records::{Exchange, Outcome};
+use rules::records::{Exchange, Outcome, UserRequest};
 use std::alloc::AllocError;
 
 impl<F: Format> Site<F> {
@@ -63,61 +63,24 @@ impl<F: Format> Site<F> {
         ensures { Transmitted sent buffer.items (seen self.old) (seen self.new) result }
     {
         self.started = true;
-        match sent {
-            Ok(count) => {
-                let number = self.note_request();
-                Ok(self.launch(buffer, count, number))
-            }
-            Err(fault) => Err(Trouble::Refused(fault)),
-        }
+        let count = sent?;
+        let number = self.note_request();
+        Ok(self.launch(buffer, count, number))
     }
 
-    // Asks a station to set its link anew: 20, 14, 17, 19.
-    pub fn reset(&mut self, station: u8, places: usize) -> Result<usize, Trouble>
-        ensures answer { result ≡ (if no_memory result then Err trouble.OutOfMemory else sent_as (seen self.old) (request (nat_lt places F.longest) station for_reset (seen self.old).concentrator)) }
-        ensures steps { Leads F.Format (is_made result) (seen self.old) (seen self.new) (λ w. requests (nat_lt places F.longest) station for_reset) }
+    // Asks something of a station, and gives the k of the burst: 20, 14, 15 or 16, 17, 18, 19.
+    pub fn request(
+        &mut self,
+        station: u8,
+        asked: UserRequest<'_>,
+        places: usize,
+    ) -> Result<usize, Trouble>
+        ensures answer { result ≡ (if no_memory result then Err trouble.OutOfMemory else sent_as (seen self.old) (request (nat_lt places F.longest) station (asking asked.entry) (seen self.old).concentrator)) }
+        ensures steps { Leads F.Format (is_made result) (seen self.old) (seen self.new) (λ w. requests (nat_lt places F.longest) station (asking asked.entry)) }
     {
-        let Ok(mut buffer) = self.prepare(station, places) else {
-            return Err(Trouble::OutOfMemory);
-        };
-        let sent = self.concentrator.reset(station, &mut buffer);
-        self.transmit(sent, buffer)
-    }
-
-    // Asks a station how it is: 20, 14, 17, 19.
-    pub fn status(&mut self, station: u8, places: usize) -> Result<usize, Trouble>
-        ensures answer { result ≡ (if no_memory result then Err trouble.OutOfMemory else sent_as (seen self.old) (request (nat_lt places F.longest) station for_status (seen self.old).concentrator)) }
-        ensures steps { Leads F.Format (is_made result) (seen self.old) (seen self.new) (λ w. requests (nat_lt places F.longest) station for_status) }
-    {
-        let Ok(mut buffer) = self.prepare(station, places) else {
-            return Err(Trouble::OutOfMemory);
-        };
-        let sent = self.concentrator.status(station, &mut buffer);
-        self.transmit(sent, buffer)
-    }
-
-    // Sends a message to a station: 20, 14, 15, 17, 18, 19.
-    pub fn send(&mut self, station: u8, octets: &[u8], places: usize) -> Result<usize, Trouble>
-        ensures answer { result ≡ (if no_memory result then Err trouble.OutOfMemory else sent_as (seen self.old) (request (nat_lt places F.longest) station (for_send octets.now) (seen self.old).concentrator)) }
-        ensures steps { Leads F.Format (is_made result) (seen self.old) (seen self.new) (λ w. requests (nat_lt places F.longest) station (for_send octets.now)) }
-    {
-        are_octets(octets);
-        let Ok(mut buffer) = self.prepare(station, places) else {
-            return Err(Trouble::OutOfMemory);
-        };
-        let sent = self.concentrator.send(station, octets, &mut buffer);
-        self.transmit(sent, buffer)
-    }
-
-    // Asks a station for its oldest message of a class: 20, 14, 16, 17, 18, 19.
-    pub fn poll(&mut self, station: u8, class: u8, places: usize) -> Result<usize, Trouble>
-        ensures answer { result ≡ (if no_memory result then Err trouble.OutOfMemory else sent_as (seen self.old) (request (nat_lt places F.longest) station (for_poll class) (seen self.old).concentrator)) }
-        ensures steps { Leads F.Format (is_made result) (seen self.old) (seen self.new) (λ w. requests (nat_lt places F.longest) station (for_poll class)) }
-    {
-        let Ok(mut buffer) = self.prepare(station, places) else {
-            return Err(Trouble::OutOfMemory);
-        };
-        let sent = self.concentrator.poll(station, class, &mut buffer);
+        are_octets_asked(asked);
+        let mut buffer = self.prepare(station, places)?;
+        let sent = self.concentrator.request(station, asked, &mut buffer);
         self.transmit(sent, buffer)
     }
 
@@ -131,15 +94,10 @@ impl<F: Format> Site<F> {
             return Err(Trouble::NotSilent);
         }
         let exchange = self.concentrator.exchange();
-        let Ok(mut buffer) = self.prepare(station_of(exchange), places) else {
-            return Err(Trouble::OutOfMemory);
-        };
+        let mut buffer = self.prepare(station_of(exchange), places)?;
         let timed = self.concentrator.time_out(&mut buffer);
         self.started = true;
-        match timed {
-            Ok(count) => Ok(self.repeat(exchange, buffer, count)),
-            Err(fault) => Err(Trouble::Refused(fault)),
-        }
+        Ok(self.repeat(exchange, buffer, timed?))
     }
 
     // The frame of the exchange goes out again if it is still open; else it has ended in doubt.
@@ -172,12 +130,18 @@ impl<F: Format> Site<F> {
     }
 }
 
+// The same of what is asked.
+fn are_octets_asked(asked: UserRequest<'_>)
+    ensures { OctetsAsked (asking asked.entry) }
+{
+    if let UserRequest::Send(octets) = asked {
+        are_octets(octets);
+    }
+}
+
 // The station of an exchange; no reader is at 0.
 pub(crate) fn station_of(exchange: Option<Exchange>) -> u8
     ensures { result ≡ station_of exchange }
 {
-    match exchange {
-        Some(exchange) => exchange.station,
-        None => 0,
-    }
+    exchange.map_or(0, |exchange| exchange.station)
 }

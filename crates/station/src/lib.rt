@@ -18,6 +18,7 @@ use frame::Format;
 use reader::Reader;
 use rules::link::Link;
 use rules::message::Message;
+use rules::records::ReaderPlan;
 use std::alloc::{AllocError, Global};
 
 #[derive(Drop)]
@@ -56,22 +57,16 @@ fn blank_slots(heap: Global, count: usize) -> Result<Vec<Message>, AllocError>
 }
 
 impl<F: Format> Station<F> {
-    // A new reader with so many slots for each class and for its inbox, and nothing in its books.
-    pub fn new(
-        heap: Global,
-        address: u8,
-        slots1: usize,
-        slots2: usize,
-        slots: usize,
-    ) -> Result<Station<F>, AllocError>
-        ensures begun { IfOk result (λ x. (reader_of x ≡ new_reader address slots1 slots2 slots) × (books_of x ≡ nothing_seen)) }
-        ensures shown { IfOk result (λ x. Shown x (new_station (record { address = address; class1 = slots1; class2 = slots2; inbox = slots }))) }
+    // A new reader by its plan, with nothing in its books.
+    pub fn new(heap: Global, plan: ReaderPlan) -> Result<Station<F>, AllocError>
+        ensures begun { IfOk result (λ x. (reader_of x ≡ new_reader plan.address plan.class1 plan.class2 plan.inbox) × (books_of x ≡ nothing_seen)) }
+        ensures shown { IfOk result (λ x. Shown x (new_station plan)) }
     {
-        let class1 = blank_slots(heap, slots1)?;
-        let class2 = blank_slots(heap, slots2)?;
-        let inbox = blank_slots(heap, slots)?;
+        let class1 = blank_slots(heap, plan.class1)?;
+        let class2 = blank_slots(heap, plan.class2)?;
+        let inbox = blank_slots(heap, plan.inbox)?;
         Ok(Station {
-            reader: Reader::over(address, class1, class2, inbox),
+            reader: Reader::over(plan.address, class1, class2, inbox),
             books: Books::new(heap),
         })
     }

@@ -1,15 +1,12 @@
-use Rattle.std.proofs.Common.{sym, ◌∙◌}
-use Rattle.damage.proofs.Flips.{within_end, within_more, within_not}
+use Rattle.std.proofs.Common.{◌∙◌, rules, tests}
+use Rattle.damage.proofs.Flips.{within_all}
 use Rattle.damage.proofs.are_within.Goals as goal
-
-pub returns-then-not-is_within : goal.returns-then-not-is_within
-returns-then-not-is_within c =
-    sym (sym c.loop-flip.invariant ∙ within_not c.args.count c.args.width c.args.flips.now c.loop-flip.flip-index _ c.loop-flip-test.true (sym c.if-not-is_within.ensures))
-
-pub loop-flip-preserved : goal.loop-flip-preserved
-loop-flip-preserved c =
-    sym (within_more c.args.count c.args.width c.args.flips.now c.loop-flip.flip-index _ c.loop-flip-test.true (sym c.if-not-is_within.ensures)) ∙ c.loop-flip.invariant
+use Rattle.damage.specs.Damages.{is_within}
+use Rattle.std.proofs.lemmas.Iterator.{YieldsList-from_slice}
+use Rattle.std.proofs.lemmas.Iterator.Search.{all_from_yields_List}
 
 pub returns : goal.returns
 returns c =
-    sym (sym c.loop-flip.invariant ∙ within_end c.args.count c.args.width c.args.flips.now c.loop-flip.flip-index c.loop-flip-test.false)
+    let fs = c.args.flips.now in
+    all_from_yields_List (is_within c.args.count c.args.width) _ _ c.all.result c.all.ensures.ran (YieldsList-from_slice fs cc) (λ x b q k. search (rules, tests)) ∙
+    within_all c.args.count c.args.width fs

@@ -1,21 +1,21 @@
-use Rattle.std.proofs.Common.{cond, is_ok, refl}
-use Rattle.account.specs.Books.{asked}
-use Rattle.readers.proofs.Found.{one_called, one_ready, unchanged}
-use Rattle.readers.specs.Readers.{readers}
+use Rattle.std.proofs.Common.{cond, is_ok, ap}
+use Rattle.account.specs.Books.{Station, asked}
+use Rattle.readers.proofs.Lent.{lent_changed, lent_ready, none_changed}
 use Rattle.readers.proofs.Readers.ask.Goals as goal
 
 pub returns-in-Some : goal.returns-in-Some
 returns-in-Some g c =
-    let r = c.args.self.now in
-    let x = c.index_mut.result.now in
-    let e = c.in-Some.ensures in
-    let q = c.index_mut.ensures.value in
+    let a = c.args.address in
+    let l = c.args.self.now.all.items in
+    let x = c.in-Some.station.now in
+    let w = c.asked.new.self in
+    let e = c.in-Some.ensures.value in
+    let q = c.get_mut.follows.holds w in
     let s = c.asked.ensures in
     record {
-      shown = one_called c.args.address r c.in-Some.i x e.place q e.inside c.asked.new.self (λ y. cond (is_ok c.asked.result) (asked c.args.request y) y) s.shown;
-      sure = λ k. s.sure (one_ready c.args.address r c.in-Some.i x e.place q e.inside k);
+      shown = lent_changed a l _ x w (λ (y : Station). cond (is_ok c.asked.result) (asked c.args.request y) y) e q s.shown;
+      sure = λ k. s.sure (lent_ready a l _ x w e q k);
     }
 
-pub returns-in-None : goal.returns-in-None
-returns-in-None g c =
-    record { shown = unchanged c.args.address (readers c.args.self.now) c.in-None.ensures.place _; sure = λ _. refl }
+pub returns-in-None-clause-shown : goal.returns-in-None-clause-shown
+returns-in-None-clause-shown g c = none_changed c.args.address c.args.self.now.all.items _ _ c.in-None.ensures.value (ap (λ r. r.all.items) c.get_mut.follows.holds-at-none)

@@ -1,18 +1,10 @@
-use Rattle.std.proofs.Common.{length, sym, ap, ◌∙◌}
+use Rattle.std.proofs.Common.{rules, tests, length}
 use Rattle.account.specs.Books.{newest_send}
-use Rattle.books.specs.Seen.{seen}
-use Rattle.readers.proofs.Found.{kept_is, nobody, partner}
-use Rattle.readers.specs.Readers.{kept, readers}
+use Rattle.readers.proofs.Found.{read_found}
 use Rattle.readers.proofs.Readers.newest_send.Goals as goal
+use Rattle.readers.specs.Readers.{Kept, kept, readers}
 
-pub returns-in-Some : goal.returns-in-Some
-returns-in-Some g c ys apart p =
-    let r = c.args.self.now in
-    let x = c.index.result.now in
-    let e = c.in-Some.ensures in
-    let q = c.index.ensures in
-    let o = partner c.args.address (readers r) c.in-Some.i (kept x) e.place (kept_is c.args.address r c.in-Some.i x e.place q e.inside) ys apart p in
-    ap length c.sends.ensures ∙ ap (λ b. length (seen b).down.sends) c.books.ensures ∙ o.2.1.0.newest ∙ sym (ap newest_send o.1)
-
-pub returns-in-None : goal.returns-in-None
-returns-in-None g c ys apart p = sym (ap newest_send (nobody c.args.address (readers c.args.self.now) c.in-None.ensures.place ys p))
+pub returns : goal.returns
+returns g c ys apart p =
+    read_found (λ x. kept x.now) _ (λ (k : Kept). length k.books.down.sends) newest_send c.get.result c.map_or.result c.args.address (readers c.args.self.now) ys p c.get.ensures c.map_or.ensures
+    (λ x q. search (rules, tests)) (λ k s q. q.1.0.newest)

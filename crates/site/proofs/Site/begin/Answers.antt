@@ -6,10 +6,10 @@ use Rattle.site.specs.Troubles.{told}
 
 pub returns : goal.returns
 returns g c =
-    let n = c.args.repetitions in
+    let n = c.args.plan.repetitions in
     record {
-      answer = ap told c.in_default.ensures;
-      stands = stands_new g.F.Format _ n c.args.arrivals c.args.reports
-          (c.over.ensures.begun ∙ ap₂ (λ a b. new_concentrator n a b) (sym c.in-Ok.arrivals.ok.0 ∙ c.in-Ok.ensures.len) (sym c.in-Ok-vec.reports.ok.0 ∙ c.in-Ok-vec.ensures.len))
+      answer = ap told c.in_ok-check.ensures;
+      stands = stands_new g.F.Format _ n c.args.plan.arrivals c.args.plan.reports
+          (c.over.ensures.begun ∙ ap₂ (λ a b. new_concentrator n a b) (sym c.in_ok-arrivals.arrivals.ok.0 ∙ c.in_ok-arrivals.ensures.len) (sym c.in_ok-reports.reports.ok.0 ∙ c.in_ok-reports.ensures.len))
           c.new.ensures c.new-2.ensures.made refl;
     }

@@ -17,12 +17,12 @@ returns g c =
     let k = c.args.k in
     let m = seen c.args.self.now in
     let m₁ = seen c.make_ready.new.self in
-    let m₂ : Memory = record { concentrator = view vec_items vec_items c.hear-outcome.new.self; readers = m₁.readers; line = m₁.line; started = m₁.started } in
+    let m₂ : Memory = record { concentrator = view c.hear-outcome.new.self; readers = m₁.readers; line = m₁.line; started = m₁.started } in
     let m' = seen c.conclude.new.self in
     let r = c.conclude.result in
-    let heard = c.in-Ok.heard.items in
+    let heard = c.in_ok-heard.heard.items in
     let on = sym c.if-not-is_on_way.ensures in
-    let p = c.in-Ok.ensures in
+    let p = c.in_ok-heard.ensures in
     let s = c.hear-outcome.ensures in
     let v = c.deref.ensures.value in
     let came = hearings_come F g.met.F.Format.size m m₁ m₂ m' k heard c.exchange-exchange.result c.exchange-exchange.ensures c.hear-outcome.result r

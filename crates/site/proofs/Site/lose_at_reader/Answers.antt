@@ -1,5 +1,6 @@
 use Rattle.std.proofs.Common.{◌≡◌, suc, ◌+◌, true, cond, Ok, Err, sym, ap, ◌∙◌, arith}
 use Rattle.line.specs.Ways.{arrived, on_way}
+use Rattle.site.proofs.Placed.{placed}
 use Rattle.site.proofs.Site.lose_at_reader.Goals as goal
 use Rattle.site.proofs.Steps.{losses_come, reader_end}
 use Rattle.site.specs.Sites.{at_end, seen, with_line}
@@ -12,8 +13,8 @@ returns-then-arrive g c =
     let m = seen c.args.self.now in
     let s = c.if-arrive.ensures in
     let k = c.args.k in
-    let p = c.in-Some.place in
-    let found = c.in-Some.ensures.place in
+    let p = c.in_ok-place.place in
+    let found = placed c.find.result p c.in_ok-place.ensures.value ∙ c.find.ensures.place in
     let next : p + 1 ≡ suc p = omega arith in
     let on : on_way (suc p) k m.line ≡ true = ap (λ n. on_way n k m.line) (sym next) ∙ sym s.answer in
     record {

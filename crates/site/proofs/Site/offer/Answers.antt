@@ -1,16 +1,33 @@
+use Rattle.std.proofs.Common.{cond, map, Some, Err, sym, ap, ◌∙◌, subst}
+use Rattle.account.specs.Books.{Station, change, offered}
+use Rattle.readers.proofs.Lent.{lent_changed, lent_unmade}
+use Rattle.readers.specs.Pairs.{Changes}
+use Rattle.readers.specs.Readers.{Kept, ShowsReader, kept, readers}
 use Rattle.rules.specs.Reader.{offer, offer_answer}
-use Rattle.readers.specs.Readers.{readers}
 use Rattle.site.proofs.Site.offer.Goals as goal
 use Rattle.site.proofs.Steps.{offers_come}
 use Rattle.site.specs.Sites.{seen}
-use Rattle.station.specs.Refusals.{told}
+use Rattle.station.specs.Refusals.{no_memory, told}
+use Rattle.station.specs.declared.Refusal.TheVariants.{Memory}
+use Rattle.std.specs.Option.{option_map}
 
-pub returns-in-Some : goal.returns-in-Some
-returns-in-Some g c =
+pub returns : goal.returns
+returns g c =
     let m = seen c.args.self.now in
-    let s = c.in-Some.ensures in
+    let l = c.args.self.now.readers.all.items in
+    let a = c.args.address in
+    let x = c.in-Some.station.now in
+    let w = c.offer-answer.new.self in
+    let e = c.in-Some.ensures in
+    let s = c.offer-answer.ensures in
     let t = c.settle.ensures in
     let os = c.args.octets.now in
-    let k = offers_come g.F.Format m (seen c.settle.new.self) (readers c.offer.new.self) c.args.address c.args.class os c.are_octets.ensures
-    (λ x. told (offer_answer (offer c.args.class os x.reader))) c.in-Some.answer c.settle.result t.answer t.moved s.shown s.unmade s.answer in
+    let z = no_memory c.offer-answer.result in
+    let f = λ (y : Kept). told (offer_answer (offer c.args.class os y.reader)) in
+    let g' = λ (y : Station). cond z y (offered (offer c.args.class os y.reader) y) in
+    let became = c.get_mut.follows.holds w in
+    let k = offers_come g.F.Format m (seen c.settle.new.self) (readers (c.get_mut.follows.lender w)) a c.args.class os c.are_octets.ensures f c.offer-answer.result c.settle.result t.answer t.moved
+    (lent_changed a l _ x w g' e.value became s.shown)
+    (λ unmade. lent_unmade a l _ x w e.value became z _ _ s.moved s.noted unmade)
+    (ap Some s.answer ∙ ap (option_map (λ y. cond z (Err Memory) (f y))) e.reader) in
     record { answer = k.0; steps = k.1 }

@@ -1,9 +1,26 @@
-use Rattle.std.proofs.Common.{refl, ap}
+use Rattle.std.proofs.Common.{◌≡◌, Some, sym, refl, ap, ◌∙◌, subst, MatchOption}
+use Rattle.account.specs.Books.{restarted}
+use Rattle.readers.proofs.Lent.{lent_changed}
+use Rattle.rules.specs.Reader.{marked as mark_of, record_after}
+use Rattle.rules.specs.declared.records.Mark.TheVariants.{Doubtful}
 use Rattle.site.proofs.Events.{stands_restarted}
 use Rattle.site.proofs.Site.restart.Goals as goal
 use Rattle.site.specs.Sites.{always}
+use Rattle.std.specs.Option.{option_map}
 
-pub returns-in-Some : goal.returns-in-Some
-returns-in-Some g c =
-    let s = c.in-Some.ensures in
-    record { answer = ap always s.answer; kept = s.kept; steps = λ w st. stands_restarted g.F.Format _ _ w st refl refl c.args.address refl s.shown }
+pub returns : goal.returns
+returns g c =
+    let l = c.args.self.now.readers.all.items in
+    let a = c.args.address in
+    let x = c.in-Some.station.now in
+    let w = c.restart-mark.new.self in
+    let e = c.in-Some.ensures in
+    let s = c.restart-mark.ensures in
+    let old = c.args.marked.now in
+    let new = c.restart-mark.new.marked in
+    record {
+      answer = ap (λ z. always (Some z)) s.answer ∙ ap (λ o. always (option_map (λ y. mark_of Doubtful y.reader.out) o)) e.reader;
+      kept = subst (λ o. MatchOption o (new ≡ old) (λ y. new ≡ record_after (mark_of Doubtful y.reader.out) y.reader.out old)) e.reader s.kept;
+      steps = λ v st. stands_restarted g.F.Format _ _ v st refl refl a refl
+          (lent_changed a l _ x w restarted e.value (c.get_mut.follows.holds w) s.shown);
+    }

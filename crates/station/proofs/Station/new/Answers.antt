@@ -1,6 +1,5 @@
 use Rattle.std.proofs.Common.{◌≡◌, ℕ, ap, ◌∙◌}
 use Rattle.rules.specs.Reader.{new_reader}
-use Rattle.rules.specs.declared.records.ReaderPlan.{ReaderPlan}
 use Rattle.station.proofs.Station.new.Goals as goal
 use Rattle.station.proofs.Steps.{begun_step}
 
@@ -11,9 +10,8 @@ same_slots a {k1} {k2} {k} {n1} {n2} {n} p q r =
 
 pub returns : goal.returns
 returns g c =
-    let begun = c.over.ensures ∙ same_slots c.args.address c.in_ok-class1.ensures c.in_ok-class2.ensures c.in_ok-inbox.ensures in
-    let fitting : ReaderPlan = record { address = c.args.address; class1 = c.args.slots1; class2 = c.args.slots2; inbox = c.args.slots } in
+    let begun = c.over.ensures ∙ same_slots c.args.plan.address c.in_ok-class1.ensures c.in_ok-class2.ensures c.in_ok-inbox.ensures in
     record {
       begun = (begun, c.new.ensures);
-      shown = begun_step (record { reader = c.over.result; books = c.new.result }) fitting begun c.new.ensures;
+      shown = begun_step (record { reader = c.over.result; books = c.new.result }) c.args.plan begun c.new.ensures;
     }
