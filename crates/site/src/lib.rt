@@ -72,7 +72,7 @@ impl<F: Format> Site<F> {
         if self.readers.find(plan.address).is_some() {
             return Err(Trouble::Joined);
         }
-        reader::check(plan.address, plan.class1, plan.class2, plan.inbox)?;
+        reader::check(plan)?;
         self.readers.join(self.heap, plan)?;
         let _ = self.line.join();
         Ok(())

@@ -23,7 +23,7 @@ impl<F: Format> Bench for HeapConcentrator<F> {
     type Call = BenchCall;
 
     fn make(heap: Global, plan: ConcentratorPlan) -> Result<HeapConcentrator<F>, Failure<'static>> {
-        concentrator::check(plan.repetitions, plan.arrivals, plan.reports)?;
+        concentrator::check(plan)?;
         let arrivals = vec![in heap; Arrival::BLANK; plan.arrivals]?;
         let reports = vec![in heap; Report::BLANK; plan.reports]?;
         Ok(Concentrator::over(plan.repetitions, arrivals, reports))
@@ -54,12 +54,7 @@ impl<F: Format> AsConcentrator for HeapConcentrator<F> {
         buffer: &mut [u16],
         answer: &mut String,
     ) -> Result<(), Failure<'static>> {
-        let count = match request {
-            UserRequest::Reset => self.reset(station, buffer)?,
-            UserRequest::Status => self.status(station, buffer)?,
-            UserRequest::Send(octets) => self.send(station, octets, buffer)?,
-            UserRequest::Poll(class) => self.poll(station, class, buffer)?,
-        };
+        let count = self.request(station, request, buffer)?;
         write_frame::<F>(answer, buffer, count)?;
         Ok(())
     }

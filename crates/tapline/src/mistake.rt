@@ -1,6 +1,5 @@
 // Why a line of the console is no command.
 use console::NumberFault;
-use damage::DamageError;
 use site::Trouble;
 use std::alloc::{AllocError, AllocFailed};
 use std::fmt;
@@ -47,7 +46,7 @@ impl fmt::Display for Mistake<'_> {
             Mistake::LongList => f.write_str("more than 4096 octets or symbols"),
             Mistake::NoBench(end) => write!(f, "no {end} on the bench"),
             Mistake::NoSite => f.write_str("no site"),
-            Mistake::Site(trouble) => f.write_str(words_of(*trouble)),
+            Mistake::Site(trouble) => write!(f, "{trouble}"),
             Mistake::OutOfMemory => f.write_str("out of memory"),
         }
     }
@@ -62,22 +61,4 @@ fn write_word<W: fmt::Write>(f: &mut fmt::Formatter<W>, word: &[u8]) -> fmt::Res
             '.'
         })
     })
-}
-
-// TEMPORARY
-pub fn words_of(trouble: Trouble) -> &'static str {
-    match trouble {
-        Trouble::Refused(_) => "refused",
-        Trouble::NotOnWay => "not on the way to that end",
-        Trouble::NotSilent => "the line is not silent",
-        Trouble::Damaged(DamageError::NothingCut) => "the cut leaves off nothing",
-        Trouble::Damaged(DamageError::FlipOutside) => "a flip outside the rest or the width",
-        Trouble::Damaged(DamageError::FlipTwice) => "a flip is given twice",
-        Trouble::Damaged(DamageError::BeyondGuard) => "beyond the guard",
-        Trouble::Damaged(DamageError::OutOfMemory) => "out of memory",
-        Trouble::NoReader => "no such reader on the site",
-        Trouble::Joined => "there is a reader at that address",
-        Trouble::Closed => "readers join before the first call",
-        Trouble::OutOfMemory => "out of memory",
-    }
 }

@@ -22,7 +22,7 @@ impl<F: Format> Bench for HeapReader<F> {
     type Call = ReaderCall;
 
     fn make(heap: Global, plan: ReaderPlan) -> Result<HeapReader<F>, Failure<'static>> {
-        reader::check(plan.address, plan.class1, plan.class2, plan.inbox)?;
+        reader::check(plan)?;
         let class1 = vec![in heap; Message::BLANK; plan.class1]?;
         let class2 = vec![in heap; Message::BLANK; plan.class2]?;
         let inbox = vec![in heap; Message::BLANK; plan.inbox]?;

@@ -61,10 +61,7 @@ impl Session {
                 let place = fault.place;
                 writeln!(self.text, "refused {cause} {layer} {place}")
             }
-            Failure::NotAllowed(trouble) => {
-                let words = crate::mistake::words_of(trouble);
-                writeln!(self.text, "not allowed: {words}")
-            }
+            Failure::NotAllowed(trouble) => writeln!(self.text, "not allowed: {trouble}"),
             Failure::Mistake(mistake) => writeln!(self.text, "error {number}: {mistake}"),
         };
         match failure {

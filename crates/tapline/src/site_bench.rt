@@ -23,7 +23,7 @@ impl<F: Format> Bench for Site<F> {
     type Call = SiteCall;
 
     fn make(heap: Global, plan: ConcentratorPlan) -> Result<Site<F>, Failure<'static>> {
-        let site = Site::begin(heap, plan.repetitions, plan.reports, plan.arrivals)?;
+        let site = Site::begin(heap, plan)?;
         Ok(site)
     }
 
@@ -35,7 +35,7 @@ impl<F: Format> Bench for Site<F> {
     ) -> Result<(), Failure<'static>> {
         match call {
             SiteCall::Join(plan) => {
-                self.join(plan.address, plan.class1, plan.class2, plan.inbox)?;
+                self.join(plan)?;
                 write!(answer, "reader {}", plan.address)?;
             }
             SiteCall::Concentrator(call) => call_concentrator(self, call, buffer, answer)?,
@@ -142,13 +142,7 @@ impl<F: Format> AsConcentrator for Site<F> {
         buffer: &mut [u16],
         answer: &mut String,
     ) -> Result<(), Failure<'static>> {
-        let places = buffer.len();
-        let burst = match request {
-            UserRequest::Reset => self.reset(station, places)?,
-            UserRequest::Status => self.status(station, places)?,
-            UserRequest::Send(octets) => self.send(station, octets, places)?,
-            UserRequest::Poll(class) => self.poll(station, class, places)?,
-        };
+        let burst = self.request(station, request, buffer.len())?;
         write_burst(self, burst, answer)?;
         Ok(())
     }
