@@ -59,6 +59,7 @@ pub fn parse_number(word: &[u8], radix: Radix, most: u16) -> Result<u16, NumberF
     if word.is_empty() {
         return Err(NumberFault::NoNumber);
     }
+    // A loop and no fold, since the bound of the value is carried from digit to digit.
     let mut value = 0;
     for byte in word {
         let Some(digit) = radix.digit(*byte) else {
