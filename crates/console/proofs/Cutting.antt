@@ -1,9 +1,14 @@
 -- Lemmas on the words of a text: blanks before them, and the first of them.
-use Rattle.std.proofs.Common.{◌≡◌, ℕ, suc, true, false, eqb, List, [], ◌∷◌, length, take, drop, sym, refl, ap, ◌∙◌, inl, inr, one-add, arith, true-eqb}
-use Rattle.console.specs.Words.{after_word, blank, first_word, is_a, not_empty, onto, parts_of, unblanked, words_of}
-use Rattle.console.specs.declared.words.Kind.TheVariants.{Word}
+use Rattle.std.proofs.Common.{◌≡◌, ℕ, suc, Bool, unwrap_or, true, false, eqb, List, [], ◌∷◌, length, take, drop, sym, refl, ap, ◌∙◌, inl, inr, one-add, arith, true-eqb}
+use Rattle.console.specs.Words.{after_word, blank, first_word, not_empty, onto, parts_of, unblanked, words_of}
 use Rattle.std.proofs.lemmas.Bool.{cases_Bool}
-use Rattle.std.specs.List.{prefix_len}
+use Rattle.std.proofs.lemmas.Bool.Decides.{nat_tests}
+use Rattle.std.proofs.lemmas.List.Sums.{prefix_len-le-length}
+use Rattle.std.specs.List.{before_first, position, position_or_len}
+
+-- a search that finds nothing counts every byte
+pub first_or_end : (test : ℕ → Bool) (text : List ℕ) → unwrap_or (position test text) (length text) ≡ position_or_len test text
+first_or_end test text = grind (arith, nat_tests, prefix_len-le-length)
 
 -- blanks in front are no part of a word
 no_blanks : (text : List ℕ) → words_of (unblanked text) ≡ words_of text
@@ -16,11 +21,11 @@ no_blanks (byte ∷ bytes) =
 
 -- the bytes up to the first blank
 abbrev run : List ℕ → List ℕ
-run text = take (prefix_len (is_a Word) text) text
+run text = before_first blank text
 
 -- what follows them
 abbrev behind : List ℕ → List ℕ
-behind text = drop (prefix_len (is_a Word) text) text
+behind text = drop (position_or_len blank text) text
 
 -- a text that is empty or begins with a blank begins with an empty part
 parted : (text : List ℕ) → parts_of (behind text) ≡ [] ∷ drop 1 (parts_of (behind text))

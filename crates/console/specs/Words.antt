@@ -1,22 +1,14 @@
 -- The words of a line.
-use Rattle.std.specs.Prelude.{ℕ, Bool, cond, not, ◌||◌, List, [], ◌∷◌, take, drop, ◌==◌}
-use Rattle.console.specs.declared.words.Kind.{Kind}
-use Rattle.console.specs.declared.words.Kind.TheVariants.{Blank, Word, Spoken}
-use Rattle.std.specs.List.{prefix_len}
+use Rattle.std.specs.Prelude.{ℕ, Bool, cond, not, ◌||◌, List, [], ◌∷◌, drop, ◌==◌}
+use Rattle.std.specs.List.{before_first, position_or_len}
 
 -- a space or a tab
 abbrev pub blank : ℕ → Bool
 blank byte = byte == 32 || byte == 9
 
--- whether a byte may be taken for a kind: blank; of a word; not the sign of a comment
-abbrev pub is_a : Kind → ℕ → Bool
-is_a Blank byte = blank byte
-is_a Word byte = not (blank byte)
-is_a Spoken byte = not (byte == 35)
-
--- a line without its comment
+-- a line without its comment, which its sign begins
 abbrev pub spoken : List ℕ → List ℕ
-spoken line = take (prefix_len (is_a Spoken) line) line
+spoken line = before_first (λ byte. byte == 35) line
 
 -- a byte before the first of some parts
 abbrev pub onto : ℕ → List (List ℕ) → List (List ℕ)
@@ -40,12 +32,12 @@ words_of text = not_empty (parts_of text)
 
 -- a text without the blanks at its front
 abbrev pub unblanked : List ℕ → List ℕ
-unblanked text = drop (prefix_len (is_a Blank) text) text
+unblanked text = drop (position_or_len (λ byte. not (blank byte)) text) text
 
 -- the first word of a text, empty if there is none
 abbrev pub first_word : List ℕ → List ℕ
-first_word text = take (prefix_len (is_a Word) (unblanked text)) (unblanked text)
+first_word text = before_first blank (unblanked text)
 
 -- what follows the first word
 abbrev pub after_word : List ℕ → List ℕ
-after_word text = drop (prefix_len (is_a Word) (unblanked text)) (unblanked text)
+after_word text = drop (position_or_len blank (unblanked text)) (unblanked text)

@@ -2,18 +2,29 @@
 ghost use Rattle.console.specs.Numbers.{base_of, digit_of, limited, number_of};
 ghost use Rattle.std.specs.Prelude.{◌≡◌, Some};
 
+use std::fmt;
+
 // What the digits of a number count by.
-#[derive(Clone, Copy)]
+#[derive(Clone, Copy, PartialEq, Eq, Debug)]
 pub enum Radix {
     Decimal,
     Hexadecimal,
 }
 
 // Why a word is no number of its type.
-#[derive(Clone, Copy)]
+#[derive(Clone, Copy, PartialEq, Eq, Debug)]
 pub enum NumberFault {
     NoNumber,
     OutOfRange,
+}
+
+impl fmt::Display for NumberFault {
+    fn fmt<W: fmt::Write>(&self, f: &mut fmt::Formatter<W>) -> fmt::Result {
+        f.write_str(match self {
+            NumberFault::NoNumber => "not a number",
+            NumberFault::OutOfRange => "out of range",
+        })
+    }
 }
 
 // One more than every number of the language: where the value of long digits stays.
@@ -48,6 +59,7 @@ pub fn parse_number(word: &[u8], radix: Radix, most: u16) -> Result<u16, NumberF
     if word.is_empty() {
         return Err(NumberFault::NoNumber);
     }
+    // A loop and no fold, since the bound of the value is carried from digit to digit.
     let mut value = 0;
     for byte in word {
         let Some(digit) = radix.digit(*byte) else {

@@ -1,44 +1,8 @@
 // The words of a line: what stands between blanks, up to a comment.
-ghost use Rattle.console.specs.Words.{after_word, first_word, is_a, spoken, words_of};
-ghost use Rattle.std.specs.Prelude.{◌≡◌, ◌+◌, ◌≤◌, [], ◌∷◌, length, MatchOption};
-ghost use Rattle.std.specs.List.{prefix_len};
+ghost use Rattle.console.specs.Words.{after_word, blank, first_word, spoken, words_of};
+ghost use Rattle.std.specs.Prelude.{◌≡◌, ◌+◌, ◌≤◌, ℕ, Bool, [], ◌∷◌, length, MatchOption};
+ghost use Rattle.std.specs.List.{position_or_len};
 ghost use Rattle.std.specs.Iterator.{at_most};
-
-// What a byte of a line may be taken for.
-#[derive(Clone, Copy)]
-pub enum Kind {
-    // a space or a tab
-    Blank,
-    // anything else
-    Word,
-    // anything but the sign that begins a comment
-    Spoken,
-}
-
-impl Kind {
-    fn has(self, byte: u8) -> bool
-        ensures { result ≡ is_a self byte }
-    {
-        match self {
-            Kind::Blank => byte == b' ' || byte == b'\t',
-            Kind::Word => byte != b' ' && byte != b'\t',
-            Kind::Spoken => byte != b'#',
-        }
-    }
-
-    // How many bytes at the front are of this kind.
-    fn run_length(self, text: &[u8]) -> usize
-        ensures count { result ≡ prefix_len (is_a self) text.now }
-        ensures within { result ≤ length text.now }
-    {
-        for (i, byte) in text.iter().enumerate() {
-            if !self.has(*byte) {
-                return i;
-            }
-        }
-        text.len()
-    }
-}
 
 // The words that are still to come.
 #[derive(Clone, Copy)]
@@ -51,7 +15,7 @@ impl<'a> Words<'a> {
     pub fn new(line: &'a [u8]) -> Words<'a>
         ensures { result.rest.now ≡ spoken line.now }
     {
-        let (spoken, _) = line.split_at(Kind::Spoken.run_length(line));
+        let (spoken, _) = line.split_at(run_length(line, |byte| *byte == b'#'));
         Words { rest: spoken }
     }
 }
@@ -77,6 +41,21 @@ fn cut_word(text: &[u8]) -> (&[u8], &[u8])
     ensures rest { result.1.now ≡ after_word text.now }
     ensures within { length result.0.now + length result.1.now ≤ length text.now }
 {
-    let (_, text) = text.split_at(Kind::Blank.run_length(text));
-    text.split_at(Kind::Word.run_length(text))
+    let (_, text) = text.split_at(run_length(text, |byte| !is_blank(byte)));
+    text.split_at(run_length(text, is_blank))
+}
+
+fn is_blank(byte: &u8) -> bool
+    ensures { result ≡ blank byte.now }
+{
+    *byte == b' ' || *byte == b'\t'
+}
+
+// How many bytes stand before the first that passes the test.
+fn run_length<P: Fn(&u8) -> bool>(text: &[u8], ends: P) -> usize
+    requires { P.IsAlwaysCallable ends }
+    ensures count { (test : ℕ → Bool) → ((byte : _) (answer : Bool) → P.post ends byte answer → answer ≡ test byte.now) → result ≡ position_or_len test text.now }
+    ensures within { result ≤ length text.now }
+{
+    text.iter().position(ends).unwrap_or(text.len())
 }

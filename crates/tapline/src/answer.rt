@@ -1,147 +1,100 @@
-// The answers, as text: one line each.
-use crate::mistake::Mistake;
-use fault::Fault;
-use frame::{Content, UserOctets};
+// The parts that several answers have.
+use frame::{Content, Format, UserOctets};
 use rules::message::Message;
-use rules::records::{Arrival, Mark, Outcome, Report, Service};
-use std::alloc::{AllocError, Global};
+use rules::records::Mark;
+use std::alloc::AllocError;
 use std::fmt;
 
-// More than any answer but an account has. It is kept free, so that no answer lacks memory once its call is made.
-const ROOM: usize = 2048;
-
-#[derive(Drop)]
-pub struct Answer {
-    text: String,
+// Octets or symbols, each after a blank, with so many hexadecimal digits.
+#[derive(Clone, Copy)]
+pub struct Listed<'a, T> {
+    units: &'a [T],
+    digits: usize,
 }
 
-impl Answer {
-    pub fn new(heap: Global) -> Result<Answer, AllocError> {
-        Ok(Answer {
-            text: String::with_capacity(heap, ROOM)?,
-        })
+pub fn octets(octets: &[u8]) -> Listed<'_, u8> {
+    Listed {
+        units: octets,
+        digits: 2,
     }
+}
 
-    pub fn as_str(&self) -> &str {
-        self.text.as_str()
+pub fn symbols<F: Format>(symbols: &[u16]) -> Listed<'_, u16> {
+    Listed {
+        units: symbols,
+        digits: (F::WIDTH as usize).div_ceil(4),
     }
+}
 
-    pub fn clear(&mut self) {
-        self.text.clear();
-    }
-
-    pub fn say<D: fmt::Display + Drop>(&mut self, words: D) -> fmt::Result {
-        write!(self.text, "{words}")?;
-        Ok(())
-    }
-
-    // Octets, each after a blank.
-    pub fn octets(&mut self, octets: &[u8]) -> fmt::Result {
-        for octet in octets {
-            write!(self.text, " {octet:02X}")?;
+impl<T: fmt::Radix + Copy> fmt::Display for Listed<'_, T> {
+    fn fmt<W: fmt::Write>(&self, f: &mut fmt::Formatter<W>) -> fmt::Result {
+        let digits = self.digits;
+        for unit in self.units {
+            write!(f, " {unit:0digits$X}")?;
         }
         Ok(())
     }
+}
 
-    // What became of a message that was out, if it was marked.
-    pub fn mark(&mut self, mark: Option<Mark>, message: &Message) -> fmt::Result {
-        match mark {
-            Some(Mark::Settled) => self.say(" settled:")?,
-            Some(Mark::Doubtful) => self.say(" doubtful:")?,
-            None => return Ok(()),
-        }
-        self.octets(message.octets())
-    }
+// The frame at the front of a buffer.
+pub fn write_frame<F: Format>(
+    answer: &mut String,
+    buffer: &[u16],
+    count: usize,
+) -> Result<(), AllocError> {
+    let frame = symbols::<F>(&buffer[..count.min(buffer.len())]);
+    write!(answer, "frame {count}:{frame}")
+}
 
-    // A frame at the front of a buffer, with so many digits to a symbol.
-    pub fn frame(&mut self, buffer: &[u16], count: usize, digits: usize) -> fmt::Result {
-        write!(self.text, "frame {count}:")?;
-        self.symbols(&buffer[0..count.min(buffer.len())], digits)
-    }
+// A content, with the record of its user octets.
+#[derive(Clone, Copy)]
+pub struct Contents<'a> {
+    pub content: Content,
+    pub user: &'a UserOctets,
+}
 
-    // Symbols, each after a blank, with so many digits.
-    pub fn symbols(&mut self, symbols: &[u16], digits: usize) -> fmt::Result {
-        for symbol in symbols {
-            write!(self.text, " {symbol:0digits$X}")?;
-        }
-        Ok(())
-    }
-
-    pub fn content(&mut self, content: Content, user: &UserOctets) -> fmt::Result {
-        match content {
-            Content::Single => self.say("single"),
+impl fmt::Display for Contents<'_> {
+    fn fmt<W: fmt::Write>(&self, f: &mut fmt::Formatter<W>) -> fmt::Result {
+        match self.content {
+            Content::Single => f.write_str("single"),
             Content::Fixed { control, address } => {
-                self.say("fixed")?;
-                self.octets(&[control.octet, address])
+                let head = [control.octet, address];
+                let head = octets(&head);
+                write!(f, "fixed{head}")
             }
             Content::Variable {
                 control,
                 address,
                 count,
             } => {
-                self.say("variable")?;
-                self.octets(&[control.octet, address])?;
-                self.say(":")?;
+                let head = [control.octet, address];
+                let head = octets(&head);
+                let user = self.user;
                 let count = usize::from(count).min(user.len());
-                self.octets(&user[0..count])
+                let user = octets(&user[..count]);
+                write!(f, "variable{head}:{user}")
             }
         }
     }
+}
 
-    pub fn outcome(&mut self, outcome: Outcome) -> fmt::Result {
-        match outcome {
-            Outcome::Done => self.say("done"),
-            Outcome::Confirmed => self.say("confirmed"),
-            Outcome::Busy => self.say("busy"),
-            Outcome::Data => self.say("data"),
-            Outcome::NoData => self.say("none"),
-            Outcome::NotServed => self.say("not served"),
-            Outcome::Doubtful => self.say("doubtful"),
+// What a reader has done beside its answer: taken a message in, and marked the one that was out.
+#[derive(Clone, Copy)]
+pub struct Effects {
+    pub taken: bool,
+    pub mark: Option<Mark>,
+    pub marked: Message,
+}
+
+impl fmt::Display for Effects {
+    fn fmt<W: fmt::Write>(&self, f: &mut fmt::Formatter<W>) -> fmt::Result {
+        if self.taken {
+            f.write_str(" taken")?;
         }
-    }
-
-    pub fn report(&mut self, report: Report) -> fmt::Result {
-        let station = report.station;
-        let service = match report.service {
-            Service::Reset => "reset",
-            Service::Status => "status",
-            Service::Send => "send",
-            Service::Poll => "poll",
-        };
-        write!(self.text, "report {station} {service} ")?;
-        self.outcome(report.outcome)?;
-        let acd = u8::from(report.flags.acd);
-        let dfc = u8::from(report.flags.dfc);
-        let sent = report.transmissions;
-        write!(self.text, " acd {acd} dfc {dfc} sent {sent}")?;
-        Ok(())
-    }
-
-    pub fn arrival(&mut self, arrival: Arrival) -> fmt::Result {
-        let station = arrival.station;
-        write!(self.text, "arrival {station}:")?;
-        self.octets(arrival.message.octets())
-    }
-
-    // The addresses at the front of a buffer.
-    pub fn survey(&mut self, buffer: &[u8], count: usize) -> fmt::Result {
-        self.say("set:")?;
-        for address in buffer.iter().take(count) {
-            write!(self.text, " {address}")?;
+        if let Some(mark) = self.mark {
+            let marked = self.marked;
+            write!(f, " {mark}: {marked}")?;
         }
-        Ok(())
-    }
-
-    pub fn error(&mut self, line: u64, mistake: Mistake<'_>) -> fmt::Result {
-        writeln!(self.text, "error {line}: {mistake}")?;
-        Ok(())
-    }
-
-    pub fn refused(&mut self, fault: Fault) -> fmt::Result {
-        let number = fault.number();
-        let layer = fault.layer();
-        let place = fault.place;
-        write!(self.text, "refused {number} {layer} {place}")?;
         Ok(())
     }
 }

@@ -35,17 +35,14 @@ impl Unit for u16 {
 // A flip is the place of a symbol and a bit of it, as 3:7.
 impl Unit for Flip {
     fn parse(word: &[u8]) -> Result<Flip, NumberFault> {
-        for (i, byte) in word.iter().enumerate() {
-            if *byte == b':' {
-                let place = parse_number(&word[0..i], Radix::Decimal, MOST)?;
-                let bit = parse_number(&word[i + 1..], Radix::Decimal, MOST)?;
-                return Ok(Flip {
-                    place: usize::from(place),
-                    bit: u32::from(bit),
-                });
-            }
-        }
-        Err(NumberFault::NoNumber)
+        let mut parts = word.splitn(2, |byte| *byte == b':');
+        let (Some(place), Some(bit)) = (parts.next(), parts.next()) else {
+            return Err(NumberFault::NoNumber);
+        };
+        Ok(Flip {
+            place: usize::from(parse_number(place, Radix::Decimal, MOST)?),
+            bit: u32::from(parse_number(bit, Radix::Decimal, MOST)?),
+        })
     }
 }
 
@@ -66,49 +63,38 @@ impl<'a> Arguments<'a> {
     }
 
     fn word(&mut self) -> Result<&'a [u8], Mistake<'a>> {
-        match self.words.next() {
-            Some(word) => Ok(word),
-            None => Err(self.usage()),
-        }
+        self.words.next().ok_or(self.usage())
     }
 
     // A word that is to be one of the language's own; what is no text is none of them.
     pub fn keyword(&mut self) -> Result<&'a str, Mistake<'a>> {
         let word = self.word()?;
-        match from_utf8(word) {
-            Ok(keyword) => Ok(keyword),
-            Err(_) => Err(self.usage()),
-        }
+        from_utf8(word).map_err(|_| self.usage())
     }
 
     // Whether this is the next word, which is then taken.
     pub fn take_keyword(&mut self, keyword: &str) -> bool {
         let mut rest = self.words;
-        let Some(word) = rest.next() else {
-            return false;
-        };
-        if word != keyword.as_bytes() {
-            return false;
+        let taken = rest.next() == Some(keyword.as_bytes());
+        if taken {
+            self.words = rest;
         }
-        self.words = rest;
-        true
+        taken
     }
 
-    pub fn number(&mut self) -> Result<u16, Mistake<'a>> {
+    fn number(&mut self) -> Result<u16, Mistake<'a>> {
         let word = self.word()?;
-        match parse_number(word, Radix::Decimal, MOST) {
-            Ok(number) => Ok(number),
-            Err(fault) => Err(Mistake::Number(fault, word)),
-        }
+        parse_number(word, Radix::Decimal, MOST).map_err(|fault| Mistake::Number(fault, word))
     }
 
-    // The next word as a number, or this one if there is no word left.
-    pub fn number_or(&mut self, otherwise: u16) -> Result<u16, Mistake<'a>> {
-        let mut rest = self.words;
-        match rest.next() {
-            Some(_) => self.number(),
-            None => Ok(otherwise),
-        }
+    // A number of slots, places or symbols.
+    pub fn count(&mut self) -> Result<usize, Mistake<'a>> {
+        Ok(usize::from(self.number()?))
+    }
+
+    // A number that the library has as an octet: all that are over an octet are over every one that it takes.
+    pub fn capped(&mut self) -> Result<u8, Mistake<'a>> {
+        Ok(u8::try_from(self.number()?).unwrap_or(u8::MAX))
     }
 
     pub fn octet(&mut self) -> Result<u8, Mistake<'a>> {
@@ -121,10 +107,16 @@ impl<'a> Arguments<'a> {
         Ok(Control { octet })
     }
 
-    pub fn end(&mut self) -> Result<(), Mistake<'a>> {
-        match self.words.next() {
-            Some(_) => Err(self.usage()),
-            None => Ok(()),
+    pub fn is_empty(&self) -> bool {
+        let mut rest = self.words;
+        rest.next().is_none()
+    }
+
+    pub fn end(&self) -> Result<(), Mistake<'a>> {
+        if self.is_empty() {
+            Ok(())
+        } else {
+            Err(self.usage())
         }
     }
 
@@ -142,8 +134,5 @@ impl<'a> Arguments<'a> {
 }
 
 fn parse_unit<'a, T: Unit>(word: &'a [u8]) -> Result<T, Mistake<'a>> {
-    match T::parse(word) {
-        Ok(value) => Ok(value),
-        Err(fault) => Err(Mistake::Number(fault, word)),
-    }
+    T::parse(word).map_err(|fault| Mistake::Number(fault, word))
 }

@@ -1,83 +1,83 @@
 // The commands of the console, and how a line is read as one.
 use crate::arguments::Arguments;
+use crate::bench::FormatName;
 use crate::mistake::Mistake;
 use crate::site_command::{SiteCall, parse_site_call};
 use console::Words;
 use frame::{Content, MOST_OCTETS};
+use links::STATIONS;
+use rules::records::{ConcentratorPlan, ReaderPlan, UserRequest};
 use std::alloc::Global;
 use std::str::from_utf8;
-
-// The places of a survey that has room for every station.
-const MOST_STATIONS: u16 = 32;
-
-#[derive(Clone, Copy)]
-pub enum FormatName {
-    Ft12,
-    Ft3,
-}
 
 // What a line asks for.
 #[derive(Drop)]
 pub enum Command {
     Format(FormatName),
-    Buffer(u16),
-    Write { content: Content, octets: Vec<u8> },
-    Read(Vec<u16>),
+    Buffer(usize),
+    Frame(FrameCall),
     BenchReader(ReaderPlan),
     Reader(ReaderCall),
     BenchConcentrator(ConcentratorPlan),
-    Concentrator(ConcentratorCall),
-    // a new site, a reader on it, and what is asked of it
+    Concentrator(BenchCall),
+    // a new site, and what is asked of it
     Site(ConcentratorPlan),
-    Join(ReaderPlan),
     OnSite(SiteCall),
 }
 
-// A reader to be made: its address, and the slots of its queues.
-#[derive(Clone, Copy)]
-pub struct ReaderPlan {
-    pub address: u16,
-    pub class1: u16,
-    pub class2: u16,
-    pub inbox: u16,
+// What is asked of a format.
+#[derive(Drop)]
+pub enum FrameCall {
+    Write { content: Content, octets: Vec<u8> },
+    Read(Vec<u16>),
 }
 
 // What is asked of a reader.
 #[derive(Drop)]
 pub enum ReaderCall {
     Hear(Vec<u16>),
-    Offer { class: u16, octets: Vec<u8> },
+    Offer { class: u8, octets: Vec<u8> },
     Collect,
     Restart,
 }
 
-// A concentrator to be made: its repetitions, and the slots of its queues.
-#[derive(Clone, Copy)]
-pub struct ConcentratorPlan {
-    pub repetitions: u16,
-    pub reports: u16,
-    pub arrivals: u16,
+// What is asked of a concentrator on the bench.
+#[derive(Drop)]
+pub enum BenchCall {
+    Hear(Vec<u16>),
+    Concentrator(ConcentratorCall),
 }
 
-// What is asked of a concentrator.
+// What is asked of a concentrator, on the bench or on a site.
 #[derive(Drop)]
 pub enum ConcentratorCall {
-    Request { station: u16, wish: Wish },
+    Request { station: u8, wish: Wish },
     TimeOut,
-    Hear(Vec<u16>),
     FetchReport,
     FetchArrival,
     // with so many places for addresses
-    Survey(u16),
+    Survey(usize),
 }
 
-// What a request asks of a station; a poll is of a class.
+// What a user requests of a station, with the octets that it sends.
 #[derive(Drop)]
 pub enum Wish {
     Reset,
     Status,
     Send(Vec<u8>),
-    Poll(u16),
+    Poll(u8),
+}
+
+impl Wish {
+    // The same, with its octets lent.
+    pub fn request(&self) -> UserRequest<'_> {
+        match self {
+            Wish::Reset => UserRequest::Reset,
+            Wish::Status => UserRequest::Status,
+            Wish::Send(octets) => UserRequest::Send(octets.as_slice()),
+            Wish::Poll(class) => UserRequest::Poll(*class),
+        }
+    }
 }
 
 impl Command {
@@ -87,26 +87,26 @@ impl Command {
         let Some(name) = words.next() else {
             return Ok(None);
         };
-        let Ok(name) = from_utf8(name) else {
-            return Err(Mistake::UnknownCommand);
-        };
+        let name = from_utf8(name).map_err(|_| Mistake::UnknownCommand)?;
         let command = match name {
             "format" => parse_format(Arguments::new("format", words))?,
             "buffer" => parse_buffer(Arguments::new("buffer", words))?,
             "write" => parse_write(heap, Arguments::new("write", words))?,
-            "read" => Command::Read(Arguments::new("read", words).list(heap)?),
-            "bench" => parse_bench(Arguments::new("bench", words))?,
-            "r" => Command::Reader(parse_reader_call(heap, Arguments::new("r", words))?),
-            "c" => {
-                let arguments = Arguments::new("c", words);
-                Command::Concentrator(parse_concentrator_call(heap, arguments)?)
+            "read" => {
+                let burst = Arguments::new("read", words).list(heap)?;
+                Command::Frame(FrameCall::Read(burst))
             }
+            "bench" => parse_bench(Arguments::new("bench", words))?,
+            "r" => parse_reader_call(heap, Arguments::new("r", words))?,
+            "c" => parse_bench_call(heap, Arguments::new("c", words))?,
             "site" => Command::Site(parse_concentrator_plan(Arguments::new("site", words))?),
-            "reader" => Command::Join(parse_reader_plan(Arguments::new("reader", words))?),
+            "reader" => {
+                let plan = parse_reader_plan(Arguments::new("reader", words))?;
+                Command::OnSite(SiteCall::Join(plan))
+            }
             _ => {
-                let whole = Arguments::new("this command", Words::new(line));
-                let rest = Arguments::new("this command", words);
-                Command::OnSite(parse_site_call(heap, name, whole, rest)?)
+                let arguments = Arguments::new("this command", words);
+                Command::OnSite(parse_site_call(heap, name, arguments)?)
             }
         };
         Ok(Some(command))
@@ -114,57 +114,51 @@ impl Command {
 }
 
 fn parse_format<'a>(mut arguments: Arguments<'a>) -> Result<Command, Mistake<'a>> {
-    let format = match arguments.keyword()? {
-        "ft12" => FormatName::Ft12,
-        "ft3" => FormatName::Ft3,
-        _ => return Err(arguments.usage()),
-    };
+    let name = arguments.keyword()?;
+    let format = name.parse().map_err(|_| arguments.usage())?;
     arguments.end()?;
     Ok(Command::Format(format))
 }
 
 fn parse_buffer<'a>(mut arguments: Arguments<'a>) -> Result<Command, Mistake<'a>> {
-    let length = arguments.number()?;
+    let length = arguments.count()?;
     arguments.end()?;
     Ok(Command::Buffer(length))
 }
 
 fn parse_write<'a>(heap: Global, mut arguments: Arguments<'a>) -> Result<Command, Mistake<'a>> {
-    match arguments.keyword()? {
-        "single" => {
-            arguments.end()?;
-            let octets = Vec::new(heap);
-            Ok(Command::Write {
-                content: Content::Single,
-                octets,
-            })
-        }
+    let call = match arguments.keyword()? {
+        "single" => write_bare(heap, Content::Single, arguments)?,
         "fixed" => {
             let control = arguments.control()?;
             let address = arguments.octet()?;
-            arguments.end()?;
-            let octets = Vec::new(heap);
-            Ok(Command::Write {
-                content: Content::Fixed { control, address },
-                octets,
-            })
+            write_bare(heap, Content::Fixed { control, address }, arguments)?
         }
         "variable" => {
             let control = arguments.control()?;
             let address = arguments.octet()?;
             let octets = arguments.list(heap)?;
-            let count = content_count(octets.as_slice());
-            Ok(Command::Write {
-                content: Content::Variable {
-                    control,
-                    address,
-                    count,
-                },
-                octets,
-            })
+            let content = Content::Variable {
+                control,
+                address,
+                count: content_count(octets.as_slice()),
+            };
+            FrameCall::Write { content, octets }
         }
-        _ => Err(arguments.usage()),
-    }
+        _ => return Err(arguments.usage()),
+    };
+    Ok(Command::Frame(call))
+}
+
+// A content without user octets.
+fn write_bare<'a>(
+    heap: Global,
+    content: Content,
+    arguments: Arguments<'a>,
+) -> Result<FrameCall, Mistake<'a>> {
+    arguments.end()?;
+    let octets = Vec::new(heap);
+    Ok(FrameCall::Write { content, octets })
 }
 
 // How many octets a content has; of more than 64, the least number that no content may have.
@@ -182,10 +176,22 @@ fn parse_bench<'a>(mut arguments: Arguments<'a>) -> Result<Command, Mistake<'a>>
 
 fn parse_reader_plan<'a>(mut arguments: Arguments<'a>) -> Result<ReaderPlan, Mistake<'a>> {
     let plan = ReaderPlan {
-        address: arguments.number()?,
-        class1: arguments.number()?,
-        class2: arguments.number()?,
-        inbox: arguments.number()?,
+        address: arguments.capped()?,
+        class1: arguments.count()?,
+        class2: arguments.count()?,
+        inbox: arguments.count()?,
+    };
+    arguments.end()?;
+    Ok(plan)
+}
+
+fn parse_concentrator_plan<'a>(
+    mut arguments: Arguments<'a>,
+) -> Result<ConcentratorPlan, Mistake<'a>> {
+    let plan = ConcentratorPlan {
+        repetitions: arguments.capped()?,
+        reports: arguments.count()?,
+        arrivals: arguments.count()?,
     };
     arguments.end()?;
     Ok(plan)
@@ -194,78 +200,77 @@ fn parse_reader_plan<'a>(mut arguments: Arguments<'a>) -> Result<ReaderPlan, Mis
 fn parse_reader_call<'a>(
     heap: Global,
     mut arguments: Arguments<'a>,
-) -> Result<ReaderCall, Mistake<'a>> {
-    match arguments.keyword()? {
-        "hear" => Ok(ReaderCall::Hear(arguments.list(heap)?)),
+) -> Result<Command, Mistake<'a>> {
+    let call = match arguments.keyword()? {
+        "hear" => ReaderCall::Hear(arguments.list(heap)?),
         "offer" => {
-            let class = arguments.number()?;
+            let class = arguments.capped()?;
             let octets = arguments.list(heap)?;
-            Ok(ReaderCall::Offer { class, octets })
+            ReaderCall::Offer { class, octets }
         }
         "collect" => {
             arguments.end()?;
-            Ok(ReaderCall::Collect)
+            ReaderCall::Collect
         }
         "restart" => {
             arguments.end()?;
-            Ok(ReaderCall::Restart)
+            ReaderCall::Restart
         }
-        _ => Err(arguments.usage()),
-    }
-}
-
-fn parse_concentrator_plan<'a>(
-    mut arguments: Arguments<'a>,
-) -> Result<ConcentratorPlan, Mistake<'a>> {
-    let plan = ConcentratorPlan {
-        repetitions: arguments.number()?,
-        reports: arguments.number()?,
-        arrivals: arguments.number()?,
+        _ => return Err(arguments.usage()),
     };
-    arguments.end()?;
-    Ok(plan)
+    Ok(Command::Reader(call))
 }
 
-pub fn parse_concentrator_call<'a>(
+fn parse_bench_call<'a>(
     heap: Global,
     mut arguments: Arguments<'a>,
-) -> Result<ConcentratorCall, Mistake<'a>> {
-    match arguments.keyword()? {
-        "reset" => parse_request(arguments, Wish::Reset),
-        "status" => parse_request(arguments, Wish::Status),
-        "send" => {
-            let station = arguments.number()?;
-            let wish = Wish::Send(arguments.list(heap)?);
-            Ok(ConcentratorCall::Request { station, wish })
+) -> Result<Command, Mistake<'a>> {
+    let call = match arguments.keyword()? {
+        "hear" => BenchCall::Hear(arguments.list(heap)?),
+        name => {
+            let call = parse_concentrator_call(heap, name, arguments)?;
+            BenchCall::Concentrator(call.ok_or(arguments.usage())?)
         }
-        "poll" => parse_poll(arguments),
+    };
+    Ok(Command::Concentrator(call))
+}
+
+// The call of this name; none if a concentrator has no such call.
+pub fn parse_concentrator_call<'a>(
+    heap: Global,
+    name: &str,
+    mut arguments: Arguments<'a>,
+) -> Result<Option<ConcentratorCall>, Mistake<'a>> {
+    let call = match name {
+        "reset" => parse_request(arguments, Wish::Reset)?,
+        "status" => parse_request(arguments, Wish::Status)?,
+        "send" => {
+            let station = arguments.capped()?;
+            let wish = Wish::Send(arguments.list(heap)?);
+            ConcentratorCall::Request { station, wish }
+        }
+        "poll" => {
+            let station = arguments.capped()?;
+            let wish = Wish::Poll(arguments.capped()?);
+            arguments.end()?;
+            ConcentratorCall::Request { station, wish }
+        }
         "timeout" => {
             arguments.end()?;
-            Ok(ConcentratorCall::TimeOut)
+            ConcentratorCall::TimeOut
         }
-        "hear" => Ok(ConcentratorCall::Hear(arguments.list(heap)?)),
-        "fetch" => parse_fetch(arguments),
-        "survey" => {
-            let places = arguments.number_or(MOST_STATIONS)?;
-            arguments.end()?;
-            Ok(ConcentratorCall::Survey(places))
-        }
-        _ => Err(arguments.usage()),
-    }
+        "fetch" => parse_fetch(arguments)?,
+        "survey" => parse_survey(arguments)?,
+        _ => return Ok(None),
+    };
+    Ok(Some(call))
 }
 
 fn parse_request<'a>(
     mut arguments: Arguments<'a>,
     wish: Wish,
 ) -> Result<ConcentratorCall, Mistake<'a>> {
-    let station = arguments.number()?;
-    arguments.end()?;
-    Ok(ConcentratorCall::Request { station, wish })
-}
-
-fn parse_poll<'a>(mut arguments: Arguments<'a>) -> Result<ConcentratorCall, Mistake<'a>> {
-    let station = arguments.number()?;
-    let wish = Wish::Poll(arguments.number()?);
+    let station = arguments.capped()?;
     arguments.end()?;
     Ok(ConcentratorCall::Request { station, wish })
 }
@@ -278,4 +283,14 @@ fn parse_fetch<'a>(mut arguments: Arguments<'a>) -> Result<ConcentratorCall, Mis
     };
     arguments.end()?;
     Ok(call)
+}
+
+// A survey has room for every station, if its places are not given.
+fn parse_survey<'a>(mut arguments: Arguments<'a>) -> Result<ConcentratorCall, Mistake<'a>> {
+    if arguments.is_empty() {
+        return Ok(ConcentratorCall::Survey(usize::from(STATIONS)));
+    }
+    let places = arguments.count()?;
+    arguments.end()?;
+    Ok(ConcentratorCall::Survey(places))
 }

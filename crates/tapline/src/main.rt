@@ -5,68 +5,71 @@
 mod answer;
 mod arguments;
 mod bench;
-mod bench_concentrator;
 mod command;
+mod concentrator_bench;
+mod concentrator_call;
+mod failure;
 mod frames;
-mod input;
 mod mistake;
-mod on_site;
+mod reader_bench;
 mod session;
 mod site_account;
+mod site_bench;
 mod site_command;
 
 use anyhow::anyhow;
-use input::{Reading, read_line, without_end};
 use session::Session;
 use std::alloc::AllocError;
-use std::io::{BufRead, BufReader, Write};
+use std::io::{BufRead, BufReader, ErrorKind, Write};
 use std::process::ExitCode;
 use std::{env, fs, io};
 
 fn main(rt: HostRuntime) -> anyhow::Result<ExitCode> {
-    // A line that was no command has its answer already, and only the status tells of it.
-    if run(&rt)? {
-        Ok(ExitCode::SUCCESS)
-    } else {
-        Ok(ExitCode::FAILURE)
-    }
-}
-
-// Answers the script that the arguments name; whether every line of it was a command.
-fn run(rt: &HostRuntime) -> anyhow::Result<bool> {
-    let mut arguments = env::args(rt)?;
+    let mut arguments = env::args(&rt)?;
     let _program = arguments.next();
     let script = arguments.next();
     if arguments.next().is_some() {
         return Err(anyhow!("usage: tapline [FILE]"));
     }
-    let clean = match script {
+    let status = match script {
         Some(path) => converse(
-            rt,
-            BufReader::new(rt.alloc(), fs::open(rt, path.as_str())?)?,
+            &rt,
+            BufReader::new(rt.alloc(), fs::open(&rt, path.as_str())?)?,
         )?,
-        None => converse(rt, BufReader::new(rt.alloc(), rt.stdin())?)?,
+        None => converse(&rt, BufReader::new(rt.alloc(), rt.stdin())?)?,
     };
-    Ok(clean)
+    Ok(status)
 }
 
-// Answers line by line, so that a person can talk to it.
-fn converse<R: BufRead + Drop>(rt: &HostRuntime, mut input: R) -> io::Result<bool> {
+// Answers line by line, so that a person can talk to it. A line that was no command has its answer, and only the status
+// tells of it.
+fn converse<R: BufRead + Drop>(rt: &HostRuntime, mut input: R) -> io::Result<ExitCode> {
     let mut session = Session::new(rt.alloc())?;
     let mut out = rt.stdout();
     let mut line = Vec::new(rt.alloc());
-    let mut clean = true;
+    let mut status = ExitCode::SUCCESS;
     for number in 1..u64::MAX {
-        let understood = match read_line(&mut input, &mut line)? {
-            Reading::Line => session.answer(number, without_end(line.as_slice())),
-            Reading::OutOfMemory => {
+        line.clear();
+        let understood = match input.read_until(b'\n', &mut line) {
+            Ok(0) => break,
+            Ok(_) => session.answer(number, without_end(line.as_slice())).is_ok(),
+            // The line is longer than memory can hold, and is passed over.
+            Err(error) if error.kind() == ErrorKind::OutOfMemory => {
+                let _skipped = input.skip_until(b'\n')?;
                 line = Vec::new(rt.alloc());
-                session.fail(number, AllocError.into())
+                session.fail(number, AllocError.into()).is_ok()
             }
-            Reading::End => break,
+            Err(error) => return Err(error),
         };
-        clean = clean && understood;
+        if !understood {
+            status = ExitCode::FAILURE;
+        }
         out.write_all(session.text().as_bytes())?;
     }
-    Ok(clean)
+    Ok(status)
+}
+
+// A line without the sign that ends it, which the last line may lack.
+fn without_end(line: &[u8]) -> &[u8] {
+    line.strip_suffix(b"\n").unwrap_or(line)
 }

@@ -1,6 +1,6 @@
 // Why a line of the console is no command.
 use console::NumberFault;
-use damage::DamageError;
+use site::Trouble;
 use std::alloc::{AllocError, AllocFailed};
 use std::fmt;
 
@@ -17,11 +17,8 @@ pub enum Mistake<'a> {
     // a call of a bench that there is not
     NoBench(&'static str),
     NoSite,
-    // a site's reader that there is not, or that may not join
-    NoReader,
-    Joined,
-    Closed,
-    Damage(DamageError),
+    // what this site cannot do
+    Site(Trouble),
     OutOfMemory,
 }
 
@@ -37,56 +34,31 @@ impl<T: Drop> From<AllocFailed<T>> for Mistake<'_> {
     }
 }
 
-// An answer is written to memory, so that only want of it can stop the writing.
-impl From<fmt::Error> for Mistake<'_> {
-    fn from(_error: fmt::Error) -> Self {
-        Mistake::OutOfMemory
-    }
-}
-
 impl fmt::Display for Mistake<'_> {
     fn fmt<W: fmt::Write>(&self, f: &mut fmt::Formatter<W>) -> fmt::Result {
         match self {
             Mistake::UnknownCommand => f.write_str("unknown command"),
             Mistake::Usage(command) => write!(f, "usage of {command}"),
-            Mistake::Number(NumberFault::NoNumber, word) => {
-                f.write_str("not a number: ")?;
-                write_word(f, word)
-            }
-            Mistake::Number(NumberFault::OutOfRange, word) => {
-                f.write_str("out of range: ")?;
+            Mistake::Number(fault, word) => {
+                write!(f, "{fault}: ")?;
                 write_word(f, word)
             }
             Mistake::LongList => f.write_str("more than 4096 octets or symbols"),
             Mistake::NoBench(end) => write!(f, "no {end} on the bench"),
             Mistake::NoSite => f.write_str("no site"),
-            Mistake::NoReader => f.write_str("no such reader on the site"),
-            Mistake::Joined => f.write_str("there is a reader at that address"),
-            Mistake::Closed => f.write_str("readers join before the first call"),
-            Mistake::Damage(error) => f.write_str(damage_words(*error)),
+            Mistake::Site(trouble) => write!(f, "{trouble}"),
             Mistake::OutOfMemory => f.write_str("out of memory"),
         }
     }
 }
 
-fn damage_words(error: DamageError) -> &'static str {
-    match error {
-        DamageError::NothingCut => "the cut leaves off nothing",
-        DamageError::FlipOutside => "a flip outside the rest or the width",
-        DamageError::FlipTwice => "a flip is given twice",
-        DamageError::BeyondGuard => "beyond the guard",
-        DamageError::OutOfMemory => "out of memory",
-    }
-}
-
 // A word as it can be shown on one line: its first bytes, with a dot for what is no ASCII letter, digit or sign.
 fn write_word<W: fmt::Write>(f: &mut fmt::Formatter<W>, word: &[u8]) -> fmt::Result {
-    for byte in word.iter().take(SHOWN) {
-        if byte.is_ascii_graphic() {
-            f.write_char(char::from(*byte))?;
+    word.iter().take(SHOWN).try_for_each(|byte| {
+        f.write_char(if byte.is_ascii_graphic() {
+            char::from(*byte)
         } else {
-            f.write_char('.')?;
-        }
-    }
-    Ok(())
+            '.'
+        })
+    })
 }

@@ -1,94 +1,87 @@
 // The account of a site: five lines for each reader, in the order of their addresses.
-use crate::answer::Answer;
-use account::{OfferState, SendState};
 use frame::Format;
+use links::STATIONS;
 use rules::link::Link;
-use rules::records::Mark;
 use site::Site;
 use station::Station;
+use std::alloc::AllocError;
 use std::fmt;
 
-// The greatest address.
-const STATIONS: u8 = 32;
-
-pub fn account<F: Format>(site: &Site<F>, answer: &mut Answer) -> fmt::Result {
-    let mut lines = 0;
+// Writes the account as an answer, of which nothing is written yet.
+pub fn write_account<F: Format>(site: &Site<F>, answer: &mut String) -> Result<(), AllocError> {
     for address in 1..=STATIONS {
         if let Some(station) = site.reader(address) {
-            if lines > 0 {
-                answer.say("\n")?;
+            if !answer.is_empty() {
+                writeln!(answer)?;
             }
-            lines = 1;
-            account_of(address, station, site.link(address), answer)?;
+            write_reader(address, station, site.link(address), answer)?;
         }
     }
-    if lines == 0 {
-        answer.say("no readers")?;
+    if answer.is_empty() {
+        write!(answer, "no readers")?;
     }
     Ok(())
 }
 
-fn account_of<F: Format>(
+fn write_reader<F: Format>(
     address: u8,
     station: &Station<F>,
     link: Link,
-    answer: &mut Answer,
-) -> fmt::Result {
+    answer: &mut String,
+) -> Result<(), AllocError> {
     let books = station.books();
-    sends(address, books.sends(), answer)?;
-    answer.say(format_args!("\n{address} inbox:"))?;
-    numbers(books.entered(), answer)?;
-    answer.say(format_args!("\n{address} offers:"))?;
-    offers(books.offers(), answer)?;
-    answer.say(format_args!("\n{address} arrivals:"))?;
-    numbers(books.arrived(), answer)?;
-    answer.say(format_args!("\n{address} link: concentrator "))?;
-    bit(link, answer)?;
-    answer.say(", reader ")?;
-    bit(station.link(), answer)
+    let sends = Numbered(books.sends());
+    let inbox = Numbers(books.entered());
+    let offers = Numbered(books.offers());
+    let arrivals = Numbers(books.arrived());
+    let concentrator = NextBit(link);
+    let reader = NextBit(station.link());
+    writeln!(answer, "{address} sends:{sends}")?;
+    writeln!(answer, "{address} inbox:{inbox}")?;
+    writeln!(answer, "{address} offers:{offers}")?;
+    writeln!(answer, "{address} arrivals:{arrivals}")?;
+    write!(
+        answer,
+        "{address} link: concentrator {concentrator}, reader {reader}"
+    )
 }
 
-fn sends(address: u8, states: &[SendState], answer: &mut Answer) -> fmt::Result {
-    answer.say(format_args!("{address} sends:"))?;
-    let mut number: u64 = 0;
-    for state in states {
-        number = number.saturating_add(1);
-        answer.say(format_args!(" #{number} "))?;
-        match *state {
-            SendState::Open => answer.say("open")?,
-            SendState::Ended(outcome) => answer.outcome(outcome)?,
+// States of messages, which are numbered from 1.
+#[derive(Clone, Copy)]
+struct Numbered<'a, T>(&'a [T]);
+
+impl<T: fmt::Display> fmt::Display for Numbered<'_, T> {
+    fn fmt<W: fmt::Write>(&self, f: &mut fmt::Formatter<W>) -> fmt::Result {
+        for (state, number) in self.0.iter().zip(1u64..) {
+            write!(f, " #{number} {state}")?;
         }
+        Ok(())
     }
-    Ok(())
 }
 
-fn offers(states: &[OfferState], answer: &mut Answer) -> fmt::Result {
-    let mut number: u64 = 0;
-    for state in states {
-        number = number.saturating_add(1);
-        answer.say(format_args!(" #{number} "))?;
-        match *state {
-            OfferState::Waiting => answer.say("waiting")?,
-            OfferState::Out => answer.say("out")?,
-            OfferState::Marked(Mark::Settled) => answer.say("settled")?,
-            OfferState::Marked(Mark::Doubtful) => answer.say("doubtful")?,
+// Messages by their numbers.
+#[derive(Clone, Copy)]
+struct Numbers<'a>(&'a [usize]);
+
+impl fmt::Display for Numbers<'_> {
+    fn fmt<W: fmt::Write>(&self, f: &mut fmt::Formatter<W>) -> fmt::Result {
+        for number in self.0 {
+            write!(f, " #{number}")?;
         }
+        Ok(())
     }
-    Ok(())
-}
-
-fn numbers(numbers: &[usize], answer: &mut Answer) -> fmt::Result {
-    for number in numbers {
-        answer.say(format_args!(" #{number}"))?;
-    }
-    Ok(())
 }
 
 // The next bit of a link that is set.
-fn bit(link: Link, answer: &mut Answer) -> fmt::Result {
-    if !link.set {
-        return answer.say("unset");
+#[derive(Clone, Copy)]
+struct NextBit(Link);
+
+impl fmt::Display for NextBit {
+    fn fmt<W: fmt::Write>(&self, f: &mut fmt::Formatter<W>) -> fmt::Result {
+        if !self.0.set {
+            return f.write_str("unset");
+        }
+        let next = u8::from(self.0.next);
+        write!(f, "set {next}")
     }
-    let next = u8::from(link.next);
-    answer.say(format_args!("set {next}"))
 }

@@ -2,77 +2,89 @@
 use crate::arguments::Arguments;
 use crate::command::{ConcentratorCall, parse_concentrator_call};
 use crate::mistake::Mistake;
-use damage::{Damage, Flip};
+use damage::Damage;
+use rules::records::ReaderPlan;
 use std::alloc::Global;
 
 // Who hears a burst, or for whom the line loses it.
 #[derive(Clone, Copy)]
 pub enum End {
     Concentrator,
-    Reader(u16),
+    Reader(u8),
 }
 
 // What is asked of a site.
 #[derive(Drop)]
 pub enum SiteCall {
+    // a reader more
+    Join(ReaderPlan),
     Concentrator(ConcentratorCall),
     Hear {
         end: End,
-        burst: u16,
+        burst: usize,
         damage: Damage,
     },
     Lose {
         end: End,
-        burst: u16,
+        burst: usize,
     },
     Quiet,
     Offer {
-        address: u16,
-        class: u16,
+        address: u8,
+        class: u8,
         octets: Vec<u8>,
     },
-    Collect(u16),
-    Restart(u16),
+    Collect(u8),
+    Restart(u8),
     Account,
 }
 
-// A command of this name on a site; none if there is no such command.
+// The call of this name.
 pub fn parse_site_call<'a>(
     heap: Global,
     name: &str,
-    whole: Arguments<'a>,
-    mut rest: Arguments<'a>,
+    mut arguments: Arguments<'a>,
 ) -> Result<SiteCall, Mistake<'a>> {
     match name {
-        "reset" | "status" | "send" | "poll" | "timeout" | "fetch" | "survey" => {
-            Ok(SiteCall::Concentrator(parse_concentrator_call(heap, whole)?))
+        "hear" => {
+            let end = parse_end(&mut arguments)?;
+            let burst = arguments.count()?;
+            let damage = parse_damage(heap, arguments)?;
+            Ok(SiteCall::Hear { end, burst, damage })
         }
-        "hear" => parse_hear(heap, rest),
-        "lose" => parse_lose(rest),
+        "lose" => {
+            let end = parse_end(&mut arguments)?;
+            let burst = arguments.count()?;
+            arguments.end()?;
+            Ok(SiteCall::Lose { end, burst })
+        }
         "quiet" => {
-            rest.end()?;
+            arguments.end()?;
             Ok(SiteCall::Quiet)
         }
-        "offer" => parse_offer(heap, rest),
-        "collect" => Ok(SiteCall::Collect(parse_address(rest)?)),
-        "restart" => Ok(SiteCall::Restart(parse_address(rest)?)),
+        "offer" => parse_offer(heap, arguments),
+        "collect" => Ok(SiteCall::Collect(parse_address(arguments)?)),
+        "restart" => Ok(SiteCall::Restart(parse_address(arguments)?)),
         "account" => {
-            rest.end()?;
+            arguments.end()?;
             Ok(SiteCall::Account)
         }
-        _ => Err(Mistake::UnknownCommand),
+        _ => {
+            let call = parse_concentrator_call(heap, name, arguments)?;
+            Ok(SiteCall::Concentrator(call.ok_or(Mistake::UnknownCommand)?))
+        }
     }
 }
 
-fn parse_address<'a>(mut arguments: Arguments<'a>) -> Result<u16, Mistake<'a>> {
-    let address = arguments.number()?;
+fn parse_address<'a>(mut arguments: Arguments<'a>) -> Result<u8, Mistake<'a>> {
+    let address = arguments.capped()?;
     arguments.end()?;
     Ok(address)
 }
 
 fn parse_offer<'a>(heap: Global, mut arguments: Arguments<'a>) -> Result<SiteCall, Mistake<'a>> {
-    let address = arguments.number()?;
-    let class = arguments.number()?;
+    let address = arguments.capped()?;
+    let class = arguments.capped()?;
     let octets = arguments.list(heap)?;
     Ok(SiteCall::Offer {
         address,
@@ -85,29 +97,16 @@ fn parse_end<'a>(arguments: &mut Arguments<'a>) -> Result<End, Mistake<'a>> {
     if arguments.take_keyword("concentrator") {
         return Ok(End::Concentrator);
     }
-    Ok(End::Reader(arguments.number()?))
-}
-
-fn parse_lose<'a>(mut arguments: Arguments<'a>) -> Result<SiteCall, Mistake<'a>> {
-    let end = parse_end(&mut arguments)?;
-    let burst = arguments.number()?;
-    arguments.end()?;
-    Ok(SiteCall::Lose { end, burst })
-}
-
-fn parse_hear<'a>(heap: Global, mut arguments: Arguments<'a>) -> Result<SiteCall, Mistake<'a>> {
-    let end = parse_end(&mut arguments)?;
-    let burst = arguments.number()?;
-    let damage = parse_damage(heap, arguments)?;
-    Ok(SiteCall::Hear { end, burst, damage })
+    Ok(End::Reader(arguments.capped()?))
 }
 
 // A cut stands before the flips, and one word brings all of these.
 fn parse_damage<'a>(heap: Global, mut arguments: Arguments<'a>) -> Result<Damage, Mistake<'a>> {
-    let mut cut = None;
-    if arguments.take_keyword("cut") {
-        cut = Some(usize::from(arguments.number()?));
-    }
+    let cut = if arguments.take_keyword("cut") {
+        Some(arguments.count()?)
+    } else {
+        None
+    };
     if !arguments.take_keyword("flip") {
         arguments.end()?;
         return Ok(Damage {
@@ -115,10 +114,9 @@ fn parse_damage<'a>(heap: Global, mut arguments: Arguments<'a>) -> Result<Damage
             flips: Vec::new(heap),
         });
     }
-    let usage = arguments.usage();
-    let flips: Vec<Flip> = arguments.list(heap)?;
-    if flips.is_empty() {
-        return Err(usage);
+    if arguments.is_empty() {
+        return Err(arguments.usage());
     }
+    let flips = arguments.list(heap)?;
     Ok(Damage { cut, flips })
 }
