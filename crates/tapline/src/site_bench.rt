@@ -167,3 +167,25 @@ impl<F: Format> AsConcentrator for Site<F> {
         self.survey(buffer)
     }
 }
+
+#[cfg(test)]
+mod tests {
+    use super::*;
+
+    // With memory to be had, what is asked of a station goes out, each time as one burst more.
+    #[test]
+    fn a_request_goes_out(rt: HostRuntime) {
+        let plan = ConcentratorPlan {
+            repetitions: 0,
+            arrivals: 1,
+            reports: 2,
+        };
+        let Ok(mut site) = Site::<Ft12>::begin(rt.alloc(), plan) else {
+            return assert!(rt; false, "no site");
+        };
+        assert!(rt; matches!(site.request(5, UserRequest::Reset, Ft12::LONGEST), Ok(1)));
+        site.quiet();
+        assert!(rt; matches!(site.time_out(Ft12::LONGEST), Ok(TimedOut::Doubted)));
+        assert!(rt; matches!(site.request(5, UserRequest::Status, Ft12::LONGEST), Ok(2)));
+    }
+}
