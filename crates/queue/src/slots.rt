@@ -1,31 +1,23 @@
 // Where the records of a queue lie: slots that a caller lends, slots on the heap, or an array.
 ghost use Rattle.std.specs.Prelude.{◌≡◌, List, length, slice_get, slice_set};
 
-// A row of slots, each with a record, counted from 0.
+// A row of slots, each with a record, counted from 0. No slice is asked for, so that memory which lends none, such as
+// that behind a device's driver, can be a store too.
 pub trait Slots {
     type Item: Copy;
 
     ghost items: { Self → List Self.Item };
 
-    fn as_slice(&self) -> &[Self::Item]
-        ensures { result.now ≡ items self.now };
+    fn count(&self) -> usize
+        ensures { result ≡ length (items self.now) };
+
+    // The record of a slot, or none past the last slot.
+    fn read(&self, at: usize) -> Option<Self::Item>
+        ensures { result ≡ slice_get (items self.now) at };
 
     // Writes one slot; past the last slot it writes nothing.
     fn write(&mut self, at: usize, x: Self::Item)
         ensures { items self.new ≡ slice_set (items self.old) at x };
-
-    fn count(&self) -> usize
-        ensures { result ≡ length (items self.now) }
-    {
-        self.as_slice().len()
-    }
-
-    // The record of a slot, or none past the last slot.
-    fn read(&self, at: usize) -> Option<Self::Item>
-        ensures { result ≡ slice_get (items self.now) at }
-    {
-        self.as_slice().get(at).copied()
-    }
 }
 
 #[tactic(auto, using(std::proofs::lemmas::List::set_past))]
@@ -43,8 +35,12 @@ impl<'a, T: Copy> Slots for &'a mut [T] {
 
     ghost items = { λ s. s.now };
 
-    fn as_slice(&self) -> &[T] {
-        self
+    fn count(&self) -> usize {
+        self.len()
+    }
+
+    fn read(&self, at: usize) -> Option<T> {
+        self.get(at).copied()
     }
 
     fn write(&mut self, at: usize, x: T) {
@@ -58,8 +54,12 @@ impl<T: Copy> Slots for Vec<T> {
 
     ghost items = { λ s. s.items };
 
-    fn as_slice(&self) -> &[T] {
-        self
+    fn count(&self) -> usize {
+        self.len()
+    }
+
+    fn read(&self, at: usize) -> Option<T> {
+        self.get(at).copied()
     }
 
     fn write(&mut self, at: usize, x: T) {
@@ -73,8 +73,12 @@ impl<T: Copy, const N: usize> Slots for [T; N] {
 
     ghost items = { λ s. s };
 
-    fn as_slice(&self) -> &[T] {
-        &self[..]
+    fn count(&self) -> usize {
+        self.as_slice().len()
+    }
+
+    fn read(&self, at: usize) -> Option<T> {
+        self.as_slice().get(at).copied()
     }
 
     fn write(&mut self, at: usize, x: T) {
