@@ -1,3 +1,4 @@
 pub mod View
 pub mod Classes
+pub mod Marking
 pub mod Hearing

@@ -9,6 +9,7 @@ ghost use Rattle.rules.specs.Reader.{addressed, answer as answer_to, asked, clas
 ghost use Rattle.std.specs.Bool.{beq};
 ghost use Rattle.std.specs.Prelude.{◌≡◌, false, Some, None, Ok, OnErr};
 
+use crate::marking::{Marked, keep};
 use crate::{Heard, Reader};
 use fault::{Cause, Fault};
 use frame::{Control, Format, check_buffer};
@@ -25,23 +26,23 @@ enum Task {
     Give(Class),
 }
 
-// What a reader answers to a request, before the answer is written.
+// What a reader answers to a request, before the answer is written, and the message that it marked.
 #[derive(Clone, Copy)]
 struct Response {
     answer: Telegram,
     taken: bool,
-    mark: Option<Mark>,
+    marked: Option<Marked>,
 }
 
 impl Response {
     // An answer that moves nothing.
     fn still(answer: Telegram) -> Response
-        ensures { result ≡ record { answer = answer; taken = false; mark = None } }
+        ensures { result ≡ record { answer = answer; taken = false; marked = None } }
     {
         Response {
             answer,
             taken: false,
-            mark: None,
+            marked: None,
         }
     }
 }
@@ -66,26 +67,27 @@ impl<S: Slots<Item = Message>, F: Format> Reader<S, F> {
         let Response {
             answer,
             taken,
-            mark,
-        } = self.hear_telegram(telegram, marked)?;
+            marked: out,
+        } = self.hear_telegram(telegram)?;
         let count = write_telegram::<F>(answer, buffer)?;
+        let mark = keep(out, marked);
         Ok(Heard { count, taken, mark })
     }
 
     // Single comes from a reader.
     #[tactic(auto, unfolding(rules::specs::Reader::hear_telegram))]
-    fn hear_telegram(&mut self, telegram: Telegram, marked: &mut Message) -> Result<Response, Fault>
-        ensures turn { Follows (hear_telegram telegram (view S.items self.old)) (view S.items self.old) (view S.items self.new) marked.old marked.new result }
+    fn hear_telegram(&mut self, telegram: Telegram) -> Result<Response, Fault>
+        ensures turn { Follows (hear_telegram telegram (view S.items self.old)) (view S.items self.old) (view S.items self.new) result }
         ensures refused { OnErr result (self.new ≡ self.old) }
     {
         match telegram {
             Telegram::Single => Err(Fault::of(Cause::WrongSender)),
-            Telegram::Fixed { control, address } => self.addressed(control, address, None, marked),
+            Telegram::Fixed { control, address } => self.addressed(control, address, None),
             Telegram::Variable {
                 control,
                 address,
                 message,
-            } => self.addressed(control, address, Some(message), marked),
+            } => self.addressed(control, address, Some(message)),
         }
     }
 
@@ -95,9 +97,8 @@ impl<S: Slots<Item = Message>, F: Format> Reader<S, F> {
         control: Control,
         address: u8,
         message: Option<Message>,
-        marked: &mut Message,
     ) -> Result<Response, Fault>
-        ensures turn { Follows (addressed control address message (view S.items self.old)) (view S.items self.old) (view S.items self.new) marked.old marked.new result }
+        ensures turn { Follows (addressed control address message (view S.items self.old)) (view S.items self.old) (view S.items self.new) result }
         ensures refused { OnErr result (self.new ≡ self.old) }
     {
         if !control.prm() {
@@ -109,24 +110,19 @@ impl<S: Slots<Item = Message>, F: Format> Reader<S, F> {
         if control.reserved() {
             return Err(Fault::of(Cause::WrongControl));
         }
-        self.answer(control, message, marked)
+        self.answer(control, message)
     }
 
     // What a request for this reader comes to.
-    fn answer(
-        &mut self,
-        control: Control,
-        message: Option<Message>,
-        marked: &mut Message,
-    ) -> Result<Response, Fault>
-        ensures turn { Follows (answer_to (asked (function_of (code_of control.octet)) (bit 16 control.octet) (bit 32 control.octet) message) (view S.items self.old)) (view S.items self.old) (view S.items self.new) marked.old marked.new result }
+    fn answer(&mut self, control: Control, message: Option<Message>) -> Result<Response, Fault>
+        ensures turn { Follows (answer_to (asked (function_of (code_of control.octet)) (bit 16 control.octet) (bit 32 control.octet) message) (view S.items self.old)) (view S.items self.old) (view S.items self.new) result }
         ensures refused { OnErr result (self.new ≡ self.old) }
     {
         let Ok(function) = Function::try_from(control.code()) else {
             return Ok(Response::still(self.says(Reply::NotImplemented)));
         };
         let task = match (function, control.fcv(), message) {
-            (Function::Reset, false, None) => return Ok(self.reset(marked)),
+            (Function::Reset, false, None) => return Ok(self.reset()),
             (Function::Status, false, None) => {
                 return Ok(Response::still(self.says(Reply::Status)));
             }
@@ -135,12 +131,12 @@ impl<S: Slots<Item = Message>, F: Format> Reader<S, F> {
             (Function::PollSecond, true, None) => Task::Give(Class::Second),
             _ => return Err(Fault::of(Cause::WrongControl)),
         };
-        self.count(control.fcb(), task, marked)
+        self.count(control.fcb(), task)
     }
 
     // By whether the link is set, and whether the bit is the expected one.
-    fn count(&mut self, bit: bool, task: Task, marked: &mut Message) -> Result<Response, Fault>
-        ensures turn { Follows (count self.old.link.set (beq bit self.old.link.next) (task_of task) (view S.items self.old)) (view S.items self.old) (view S.items self.new) marked.old marked.new result }
+    fn count(&mut self, bit: bool, task: Task) -> Result<Response, Fault>
+        ensures turn { Follows (count self.old.link.set (beq bit self.old.link.next) (task_of task) (view S.items self.old)) (view S.items self.old) (view S.items self.new) result }
         ensures refused { OnErr result (self.new ≡ self.old) }
     {
         if !self.link.set {
@@ -150,31 +146,29 @@ impl<S: Slots<Item = Message>, F: Format> Reader<S, F> {
             return self.repeat();
         }
         Ok(match task {
-            Task::Take(message) => self.take_in(message, marked),
-            Task::Give(class) => self.give_out(class, marked),
+            Task::Take(message) => self.take_in(message),
+            Task::Give(class) => self.give_out(class),
         })
     }
 
     // Sets the link; the ACK is not stored.
-    fn reset(&mut self, marked: &mut Message) -> Response
-        ensures turn { Follows (answer_to reset (view S.items self.old)) (view S.items self.old) (view S.items self.new) marked.old marked.new (Ok result) }
+    fn reset(&mut self) -> Response
+        ensures turn { Follows (answer_to reset (view S.items self.old)) (view S.items self.old) (view S.items self.new) (Ok result) }
     {
         self.link = Link::reset();
         self.stored = None;
-        let mark = self.mark_out(Mark::Doubtful, marked);
+        let marked = self.mark_out(Mark::Doubtful);
         Response {
             answer: self.says_briefly(Reply::Ack),
             taken: false,
-            mark,
+            marked,
         }
     }
 
     // The stored answer goes out again, symbol for symbol.
     #[tactic(auto, unfolding(rules::specs::Reader::repeat))]
     fn repeat(&self) -> Result<Response, Fault>
-        ensures answer { result ≡ response (repeat self.now.stored (view S.items self.now)) }
-        ensures moved { view S.items self.now ≡ hear_after (repeat self.now.stored (view S.items self.now)) (view S.items self.now) }
-        ensures unmarked { mark_heard (repeat self.now.stored (view S.items self.now)) ≡ None }
+        ensures turn { Follows (repeat self.now.stored (view S.items self.now)) (view S.items self.now) (view S.items self.now) result }
     {
         self.stored
             .map(Response::still)
@@ -183,43 +177,43 @@ impl<S: Slots<Item = Message>, F: Format> Reader<S, F> {
 
     // A send with the expected bit: into the inbox, or busy if that is full.
     #[tactic(auto, unfolding(rules::specs::Reader::take_in))]
-    fn take_in(&mut self, message: Message, marked: &mut Message) -> Response
-        ensures turn { Follows (take_in (dfc (view S.items self.old)) message (view S.items self.old)) (view S.items self.old) (view S.items self.new) marked.old marked.new (Ok result) }
+    fn take_in(&mut self, message: Message) -> Response
+        ensures turn { Follows (take_in (dfc (view S.items self.old)) message (view S.items self.old)) (view S.items self.old) (view S.items self.new) (Ok result) }
     {
         let entered = self.inbox.put(message);
-        let mark = self.settle(marked);
+        let settled = self.settle();
         match entered {
-            Ok(()) => self.store(self.says_briefly(Reply::Ack), true, mark),
-            Err(_) => self.store(self.says(Reply::Busy), false, mark),
+            Ok(()) => self.store(self.says_briefly(Reply::Ack), true, settled),
+            Err(_) => self.store(self.says(Reply::Busy), false, settled),
         }
     }
 
     // A poll with the expected bit: the oldest of its class, which is now out, or no data.
     #[tactic(auto, unfolding(rules::specs::Reader::give_out))]
-    fn give_out(&mut self, class: Class, marked: &mut Message) -> Response
-        ensures turn { Follows (give_out (class_queue class (view S.items self.old)).records class (view S.items self.old)) (view S.items self.old) (view S.items self.new) marked.old marked.new (Ok result) }
+    fn give_out(&mut self, class: Class) -> Response
+        ensures turn { Follows (give_out (class_queue class (view S.items self.old)).records class (view S.items self.old)) (view S.items self.old) (view S.items self.new) (Ok result) }
     {
         let oldest = self.take_oldest(class);
-        let mark = self.settle(marked);
+        let settled = self.settle();
         match oldest {
             Ok(message) => {
                 self.out = Some(message);
-                self.store(self.says_data(message), false, mark)
+                self.store(self.says_data(message), false, settled)
             }
-            Err(_) => self.store(self.says_briefly(Reply::NoData), false, mark),
+            Err(_) => self.store(self.says_briefly(Reply::NoData), false, settled),
         }
     }
 
     // The answer is stored, for a repetition of its request.
-    fn store(&mut self, answer: Telegram, taken: bool, mark: Option<Mark>) -> Response
-        ensures answer { result ≡ record { answer = answer; taken = taken; mark = mark } }
+    fn store(&mut self, answer: Telegram, taken: bool, marked: Option<Marked>) -> Response
+        ensures answer { result ≡ record { answer = answer; taken = taken; marked = marked } }
         ensures moved { view S.items self.new ≡ with_link self.old.link (Some answer) self.old.out (view S.items self.old) }
     {
         self.stored = Some(answer);
         Response {
             answer,
             taken,
-            mark,
+            marked,
         }
     }
 

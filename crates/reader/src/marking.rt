@@ -1,4 +1,5 @@
 // What becomes of the message that a reader has handed out.
+ghost use Rattle.reader.specs.Marking.{mark_told, marked_out, record_with};
 ghost use Rattle.reader.specs.View.{view};
 ghost use Rattle.rules.specs.Links.{flipped};
 ghost use Rattle.rules.specs.Reader.{marked as mark_of, record_after, restarted, with_link};
@@ -11,6 +12,23 @@ use queue::Slots;
 use rules::message::Message;
 use rules::records::Mark;
 
+// A message that was out, with the mark that it got.
+#[derive(Clone, Copy)]
+pub(crate) struct Marked {
+    pub(crate) mark: Mark,
+    pub(crate) message: Message,
+}
+
+// A message that was marked stands in the caller's record, which is otherwise left.
+pub(crate) fn keep(out: Option<Marked>, marked: &mut Message) -> Option<Mark>
+    ensures answer { result ≡ mark_told out }
+    ensures kept { marked.new ≡ record_with out marked.old }
+{
+    let Marked { mark, message } = out?;
+    *marked = message;
+    Some(mark)
+}
+
 impl<S: Slots<Item = Message>, F: Format> Reader<S, F> {
     // Starts again: the link is unset, nothing is stored, and the message out is doubtful; it then stands in the
     // caller's record, which is otherwise left, as section 9 of docs/RULES.md has it. The queues stay.
@@ -21,26 +39,26 @@ impl<S: Slots<Item = Message>, F: Format> Reader<S, F> {
     {
         self.link = self.link.unset();
         self.stored = None;
-        self.mark_out(Mark::Doubtful, marked)
+        keep(self.mark_out(Mark::Doubtful), marked)
     }
 
     // The expected bit has come: it flips, and the message out is settled.
-    pub(crate) fn settle(&mut self, marked: &mut Message) -> Option<Mark>
-        ensures answer { result ≡ mark_of Settled self.old.out }
+    pub(crate) fn settle(&mut self) -> Option<Marked>
+        ensures answer { result ≡ marked_out (mark_of Settled self.old.out) self.old.out }
+        ensures mark { mark_told result ≡ mark_of Settled self.old.out }
         ensures moved { view S.items self.new ≡ with_link (flipped self.old.link) self.old.stored None (view S.items self.old) }
-        ensures kept { marked.new ≡ record_after result self.old.out marked.old }
     {
         self.link = self.link.flipped();
-        self.mark_out(Mark::Settled, marked)
+        self.mark_out(Mark::Settled)
     }
 
-    // Marks the message out, which is out no more and stands in the caller's record.
-    pub(crate) fn mark_out(&mut self, mark: Mark, marked: &mut Message) -> Option<Mark>
-        ensures answer { result ≡ mark_of mark self.old.out }
+    // Marks the message out, which is out no more.
+    pub(crate) fn mark_out(&mut self, mark: Mark) -> Option<Marked>
+        ensures answer { result ≡ marked_out (mark_of mark self.old.out) self.old.out }
+        ensures mark { mark_told result ≡ mark_of mark self.old.out }
         ensures moved { view S.items self.new ≡ with_link self.old.link self.old.stored None (view S.items self.old) }
-        ensures kept { marked.new ≡ record_after result self.old.out marked.old }
     {
-        *marked = self.out.take()?;
-        Some(mark)
+        let message = self.out.take()?;
+        Some(Marked { mark, message })
     }
 }
