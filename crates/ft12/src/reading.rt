@@ -82,7 +82,6 @@ fn read_variable(octets: &[u8], user: &mut UserOctets) -> Result<Content, Fault>
 
 // The frame of some octets, by the first of them.
 pub(crate) fn read_octets(octets: &[u8], user: &mut UserOctets) -> Result<Content, Fault>
-    requires { 1 ≤ length octets.now }
     ensures answer { result ≡ content_read (octets_verdict octets.now) }
     ensures filled { user.new ≡ filled_record (octets_verdict octets.now) user.old }
 {
