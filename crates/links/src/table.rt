@@ -5,9 +5,7 @@ ghost use Rattle.std.specs.Prelude.{◌≡◌, ◌-◌, length, replicate, Match
 
 use fault::{Cause, Fault};
 use rules::link::Link;
-
-// The stations are 1 to this number.
-pub const STATIONS: u8 = 32;
+use rules::station::STATIONS;
 
 // The record of station 1 comes first. Past the last station every link is unset and none changes.
 #[derive(Clone, Copy)]
@@ -15,6 +13,7 @@ pub struct LinkTable {
     records: [Link; 32],
 }
 
+// Station 0, which no request has, shares the record of station 1.
 fn place_of(station: u8) -> usize
     ensures { result ≡ station - 1 }
 {
@@ -58,7 +57,7 @@ impl LinkTable {
         if buffer.len() < usize::from(STATIONS) {
             return Err(Fault::of(Cause::ShortBuffer));
         }
-        // Counted by hand: once `iter_mut` has lent the buffer, a proof knows only its length.
+        // Counted by hand: a `filter` leaves goals over its runs, and the count is kept all the same.
         let mut count = 0;
         for station in 1..=STATIONS {
             if self.get(station).set {
