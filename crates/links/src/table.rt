@@ -7,10 +7,13 @@ use fault::{Cause, Fault};
 use rules::link::Link;
 use rules::station::STATIONS;
 
+// A record for each station.
+const PLACES: usize = STATIONS as usize;
+
 // The record of station 1 comes first. Past the last station every link is unset and none changes.
 #[derive(Clone, Copy)]
 pub struct LinkTable {
-    records: [Link; 32],
+    records: [Link; PLACES],
 }
 
 // Station 0, which no request has, shares the record of station 1.
@@ -26,7 +29,7 @@ impl LinkTable {
         ensures { result.records ≡ replicate 32 unset_link }
     {
         LinkTable {
-            records: [Link::UNSET; 32],
+            records: [Link::UNSET; PLACES],
         }
     }
 
@@ -54,7 +57,7 @@ impl LinkTable {
         ensures answer { result ≡ survey_answer self.now.records (length buffer.old) }
         ensures written { MatchResult result (λ count. Surveyed self.now.records buffer.old buffer.new count) (λ _. buffer.new ≡ buffer.old) }
     {
-        if buffer.len() < usize::from(STATIONS) {
+        if buffer.len() < PLACES {
             return Err(Fault::of(Cause::ShortBuffer));
         }
         // Counted by hand: a `filter` leaves goals over its runs, and the count is kept all the same.
