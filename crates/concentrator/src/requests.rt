@@ -1,29 +1,17 @@
 // What the concentrator asks of a station.
 ghost use Rattle.concentrator.specs.View.{view};
-ghost use Rattle.fault.specs.Causes.{fault};
-ghost use Rattle.fault.specs.declared.Cause.TheVariants.{BadStation};
-ghost use Rattle.frame.specs.Verdicts.{must};
 ghost use Rattle.rules.specs.Concentrator.{asking, has_room, request as requested, request_as};
 ghost use Rattle.rules.specs.Exchanges.{sent_after, sent_answer, sent_buffer};
-ghost use Rattle.rules.specs.Messages.{within};
 ghost use Rattle.std.specs.Prelude.{◌≡◌, ◌≤◌, length, Ok, OnErr, nat_lt};
 
 use crate::Concentrator;
 use fault::{Cause, Fault};
 use frame::{Format, check_buffer};
-use links::{STATIONS, is_ready, link_asked, transmission};
+use links::{is_ready, link_asked, transmission};
 use queue::Slots;
 use rules::records::{Arrival, Exchange, Report, Request, UserRequest};
+use rules::station::check_station;
 use rules::telegram::write_telegram;
-
-fn check_station(station: u8) -> Result<(), Fault>
-    ensures { result ≡ must (within 1 32 station) (fault BadStation 0) (Ok tt) }
-{
-    if !(1..=STATIONS).contains(&station) {
-        return Err(Fault::of(Cause::BadStation));
-    }
-    Ok(())
-}
 
 impl<P: Slots<Item = Arrival>, Q: Slots<Item = Report>, F: Format> Concentrator<P, Q, F> {
     // A free slot for the report and, on a poll, one for the arrival.

@@ -45,6 +45,7 @@ pub enum Cause {
 }
 
 impl Cause {
+    // A method and no conversion: a caller asks a fault for its number by name.
     pub fn number(self) -> u8
         ensures { result ≡ number_of self }
     {

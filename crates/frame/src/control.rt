@@ -19,6 +19,7 @@ pub struct Control {
 
 impl Control {
     // From the concentrator: PRM 1, the frame count bit, whether that is valid, and the low four bits of a code.
+    // Any code: a frame carries those that no station knows, too.
     pub fn primary(fcb: bool, fcv: bool, code: u8) -> Control
         ensures { result.octet ≡ primary_octet fcb fcv code }
     {
@@ -27,7 +28,7 @@ impl Control {
         }
     }
 
-    // From a reader: PRM 0, class 1 data waiting, inbox full, and the low four bits of a code.
+    // From a reader: PRM 0, class 1 data waiting, inbox full, and the low four bits of a code, any here too.
     pub fn secondary(acd: bool, dfc: bool, code: u8) -> Control
         ensures { result.octet ≡ secondary_octet acd dfc code }
     {

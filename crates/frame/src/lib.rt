@@ -19,10 +19,10 @@ use fault::{Cause, Fault};
 pub const MOST_OCTETS: usize = 64;
 
 // The user octets of a frame at the front, and zeros after them.
-pub type UserOctets = [u8; 64];
+pub type UserOctets = [u8; MOST_OCTETS];
 
-// What a frame carries. The user octets of a variable content stand at the front of a record beside it, which the
-// caller lends; a count of none or of more than 64 can be named, and write refuses it.
+// What a frame carries. The count stands beside a record of 64 octets, since read is lent one (no heap), and write takes
+// what read gives; a count of none or of more than 64 can be named, and write refuses it.
 #[derive(Clone, Copy, PartialEq, Eq, Debug)]
 pub enum Content {
     Single,
@@ -128,7 +128,7 @@ pub fn open_burst<A: Alphabet, const LONGEST: usize>(burst: &[u16]) -> Result<[u
 {
     check_burst::<A>(burst, LONGEST)?;
     let mut octets = [0; LONGEST];
-    // By index: a proof does not follow the elements that `iter_mut` lends.
+    // By index: through `iter_mut().zip(..)` a proof does not follow what is lent.
     for (i, symbol) in burst.iter().enumerate() {
         octets[i] = A::decode(*symbol);
     }
@@ -143,7 +143,7 @@ pub fn encode_at<A: Alphabet>(buffer: &mut [u16], place: usize, octets: &[u8]) -
 {
     let room = buffer.len().saturating_sub(place);
     let octets = &octets[..room.min(octets.len())];
-    // By index: the proof does not follow elements that a loop is lent.
+    // By index: through `iter_mut().zip(..)` a proof does not follow what is lent.
     for (i, octet) in octets.iter().enumerate() {
         buffer[place + i] = A::encode(*octet);
     }
@@ -155,6 +155,6 @@ pub fn fill_record(user: &mut UserOctets, octets: &[u8])
     ensures { user.new ≡ padded octets.now }
 {
     let count = MOST_OCTETS.min(octets.len());
-    *user = [0; 64];
+    *user = [0; MOST_OCTETS];
     user[..count].copy_from_slice(&octets[..count]);
 }

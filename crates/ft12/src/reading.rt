@@ -58,7 +58,7 @@ fn read_variable(octets: &[u8], user: &mut UserOctets) -> Result<Content, Fault>
     let [_, length, again, start, ..] = *octets else {
         return Err(Fault::at(Cause::WrongLength, octets.len()));
     };
-    if length < 3 || length > 66 {
+    if !(3..=66).contains(&length) {
         return Err(Fault::at(Cause::WrongLength, 1));
     }
     if again != length {
@@ -82,14 +82,13 @@ fn read_variable(octets: &[u8], user: &mut UserOctets) -> Result<Content, Fault>
 
 // The frame of some octets, by the first of them.
 pub(crate) fn read_octets(octets: &[u8], user: &mut UserOctets) -> Result<Content, Fault>
-    requires { 1 ≤ length octets.now }
     ensures answer { result ≡ content_read (octets_verdict octets.now) }
     ensures filled { user.new ≡ filled_record (octets_verdict octets.now) user.old }
 {
-    match octets[0] {
-        SINGLE => read_single(octets, user),
-        FIXED => read_fixed(octets, user),
-        VARIABLE => read_variable(octets, user),
+    match *octets {
+        [SINGLE, ..] => read_single(octets, user),
+        [FIXED, ..] => read_fixed(octets, user),
+        [VARIABLE, ..] => read_variable(octets, user),
         _ => Err(Fault::of(Cause::WrongStart)),
     }
 }

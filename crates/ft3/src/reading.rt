@@ -69,7 +69,7 @@ fn read_variable(octets: &[u8], count: usize, user: &mut UserOctets) -> Result<C
         return Err(Fault::at(Cause::WrongLength, octets.len()));
     }
     let mut opened = [0u8; MOST_OCTETS];
-    // By index: a proof does not follow the parts that `chunks_mut` lends.
+    // By index: through `iter_mut().zip(..)` a proof does not follow what is lent.
     for (i, block) in octets[HEADER..].chunks(SEALED).enumerate() {
         check_block(block, HEADER + i * SEALED)?;
         let size = block.len() - CHECK;
@@ -103,13 +103,12 @@ fn read_headed(octets: &[u8], user: &mut UserOctets) -> Result<Content, Fault>
 
 // The frame of some octets, by the first of them.
 pub(crate) fn read_octets(octets: &[u8], user: &mut UserOctets) -> Result<Content, Fault>
-    requires { 1 ≤ length octets.now }
     ensures answer { result ≡ content_read (octets_verdict octets.now) }
     ensures filled { user.new ≡ filled_record (octets_verdict octets.now) user.old }
 {
-    match octets[0] {
-        SINGLE => read_single(octets, user),
-        HEADED => read_headed(octets, user),
+    match *octets {
+        [SINGLE, ..] => read_single(octets, user),
+        [HEADED, ..] => read_headed(octets, user),
         _ => Err(Fault::of(Cause::WrongStart)),
     }
 }

@@ -35,6 +35,7 @@ fn write_blocks(user: &[u8], place: usize, buffer: &mut [u16]) -> usize
     ensures end { result ≡ place + length (all_blocks user.now) }
     ensures written { buffer.new ≡ encoded_at (λ o. o) place (all_blocks user.now) buffer.old }
 {
+    // A loop and no fold, since each block is written into the buffer.
     let mut end = place;
     for block in user.chunks(BLOCK) {
         end = put_block(buffer, end, block);

@@ -8,4 +8,5 @@ mod table;
 
 pub use answers::{flags, link_after, verdict};
 pub use requests::{is_ready, link_asked, transmission};
-pub use table::{LinkTable, STATIONS};
+pub use rules::station::STATIONS;
+pub use table::LinkTable;

@@ -5,16 +5,18 @@ ghost use Rattle.std.specs.Prelude.{◌≡◌, ◌-◌, length, replicate, Match
 
 use fault::{Cause, Fault};
 use rules::link::Link;
+use rules::station::STATIONS;
 
-// The stations are 1 to this number.
-pub const STATIONS: u8 = 32;
+// A record for each station.
+const PLACES: usize = STATIONS as usize;
 
 // The record of station 1 comes first. Past the last station every link is unset and none changes.
 #[derive(Clone, Copy)]
 pub struct LinkTable {
-    records: [Link; 32],
+    records: [Link; PLACES],
 }
 
+// Station 0, which no request has, shares the record of station 1.
 fn place_of(station: u8) -> usize
     ensures { result ≡ station - 1 }
 {
@@ -27,7 +29,7 @@ impl LinkTable {
         ensures { result.records ≡ replicate 32 unset_link }
     {
         LinkTable {
-            records: [Link::UNSET; 32],
+            records: [Link::UNSET; PLACES],
         }
     }
 
@@ -55,10 +57,10 @@ impl LinkTable {
         ensures answer { result ≡ survey_answer self.now.records (length buffer.old) }
         ensures written { MatchResult result (λ count. Surveyed self.now.records buffer.old buffer.new count) (λ _. buffer.new ≡ buffer.old) }
     {
-        if buffer.len() < usize::from(STATIONS) {
+        if buffer.len() < PLACES {
             return Err(Fault::of(Cause::ShortBuffer));
         }
-        // Counted by hand: once `iter_mut` has lent the buffer, a proof knows only its length.
+        // Counted by hand: a `filter` leaves goals over its runs, and the count is kept all the same.
         let mut count = 0;
         for station in 1..=STATIONS {
             if self.get(station).set {

@@ -142,9 +142,7 @@ impl<S: Slots> Queue<S> {
         ensures first { self.new.first ≡ take_first S.items self.old }
         ensures refused { OnErr result (self.new ≡ self.old) }
     {
-        let Some(x) = self.oldest() else {
-            return Err(Fault::of(Cause::QueueEmpty));
-        };
+        let x = self.oldest().ok_or(Fault::of(Cause::QueueEmpty))?;
         let count = self.slots.count();
         self.first = slot_after(self.first, 1, count);
         self.len -= 1;

@@ -18,6 +18,7 @@ use queue::{Queue, Slots, check_slots};
 use rules::link::Link;
 use rules::message::Message;
 use rules::records::{Class, Mark, ReaderPlan};
+use rules::station::check_station;
 use rules::telegram::Telegram;
 use std::marker::PhantomData;
 
@@ -36,7 +37,7 @@ pub struct Reader<S, F> {
 }
 
 // What an accepted hearing tells: how many symbols the answer has, whether a message was taken into the inbox, and
-// the mark of the message that was out.
+// the mark of the message that was out; taken and mark: section 9 of docs/RULES.md.
 #[derive(Clone, Copy, PartialEq, Eq, Debug)]
 pub struct Heard {
     pub count: usize,
@@ -48,9 +49,7 @@ pub struct Heard {
 pub fn check(plan: ReaderPlan) -> Result<(), Fault>
     ensures { result ≡ reader_check plan.address plan.class1 plan.class2 plan.inbox }
 {
-    if !(1..=32).contains(&plan.address) {
-        return Err(Fault::of(Cause::BadStation));
-    }
+    check_station(plan.address)?;
     check_slots(plan.class1)?;
     check_slots(plan.class2)?;
     check_slots(plan.inbox)
@@ -119,15 +118,14 @@ impl<S: Slots<Item = Message>, F: Format> Reader<S, F> {
     }
 
     // One message more for the concentrator, as the newest of its class.
+    // The class as a number, since a wrong one is refused here: 16.
     pub fn offer(&mut self, class: u8, octets: &[u8]) -> Result<(), Fault>
         ensures answer { result ≡ offer_answer (offer class octets.now (view S.items self.old)) }
         ensures moved { view S.items self.new ≡ offer_after (offer class octets.now (view S.items self.old)) (view S.items self.old) }
         ensures refused { OnErr result (self.new ≡ self.old) }
     {
         let message = Message::new(octets)?;
-        let Ok(class) = Class::try_from(class) else {
-            return Err(Fault::of(Cause::BadClass));
-        };
+        let class = Class::try_from(class).map_err(|_| Fault::of(Cause::BadClass))?;
         self.class_mut(class).put(message)
     }
 

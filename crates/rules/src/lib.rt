@@ -6,4 +6,5 @@ pub mod link;
 pub mod message;
 mod printing;
 pub mod records;
+pub mod station;
 pub mod telegram;

@@ -3,7 +3,7 @@ ghost use Rattle.rules.specs.Links.{flipped, reset_link, unset};
 ghost use Rattle.std.specs.Prelude.{◌≡◌};
 
 // Set by a reset that was done, and the frame count bit that comes next: at the concentrator the one that it sends,
-// at the reader the one that it expects.
+// at the reader the one that it expects. Not an Option: an unset link keeps its bit.
 #[derive(Clone, Copy, PartialEq, Eq, Debug)]
 pub struct Link {
     pub set: bool,
@@ -11,7 +11,7 @@ pub struct Link {
 }
 
 impl Link {
-    // As every link begins.
+    // As every link begins. A constant, since it fills arrays of slots.
     pub const UNSET: Link = Link {
         set: false,
         next: false,
@@ -31,8 +31,8 @@ impl Link {
         ensures { result ≡ flipped self }
     {
         Link {
-            set: self.set,
             next: !self.next,
+            ..self
         }
     }
 
@@ -40,9 +40,6 @@ impl Link {
     pub fn unset(self) -> Link
         ensures { result ≡ unset self }
     {
-        Link {
-            set: false,
-            next: self.next,
-        }
+        Link { set: false, ..self }
     }
 }

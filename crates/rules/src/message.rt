@@ -15,10 +15,10 @@ pub struct Message {
 }
 
 impl Message {
-    // A message of one zero octet, to fill slots with.
+    // A message of one zero octet. A constant, since it fills arrays of slots.
     pub const BLANK: Message = Message {
         count: 1,
-        octets: [0; 64],
+        octets: [0; MOST_OCTETS],
     };
 
     pub fn new(octets: &[u8]) -> Result<Message, Fault>
@@ -27,7 +27,7 @@ impl Message {
         if !(1..=MOST_OCTETS).contains(&octets.len()) {
             return Err(Fault::of(Cause::BadLength));
         }
-        let mut padded = [0; 64];
+        let mut padded = [0; MOST_OCTETS];
         fill_record(&mut padded, octets);
         Ok(Message {
             count: octets.len() as u8,

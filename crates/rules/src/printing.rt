@@ -50,6 +50,7 @@ impl fmt::Display for Outcome {
 // Its octets, with a blank between two.
 impl fmt::Display for Message {
     fn fmt<W: fmt::Write>(&self, f: &mut fmt::Formatter<W>) -> fmt::Result {
+        // The first octet has no blank before it.
         for (place, octet) in self.octets().iter().enumerate() {
             if place > 0 {
                 f.write_str(" ")?;

@@ -142,6 +142,7 @@ pub enum UserRequest<'a> {
     Reset,
     Status,
     Send(&'a [u8]),
+    // The class as a number, since a wrong one is refused here: 16.
     Poll(u8),
 }
 
@@ -154,10 +155,10 @@ impl UserRequest<'_> {
             UserRequest::Reset => Ok(Request::Reset),
             UserRequest::Status => Ok(Request::Status),
             UserRequest::Send(octets) => Ok(Request::Send(Message::new(octets)?)),
-            UserRequest::Poll(number) => match Class::try_from(number) {
-                Ok(class) => Ok(Request::Poll(class)),
-                Err(_) => Err(Fault::of(Cause::BadClass)),
-            },
+            UserRequest::Poll(number) => {
+                let class = Class::try_from(number).map_err(|_| Fault::of(Cause::BadClass))?;
+                Ok(Request::Poll(class))
+            }
         }
     }
 }
@@ -232,7 +233,7 @@ pub struct Arrival {
 }
 
 impl Arrival {
-    // To fill slots with.
+    // A constant, since it fills arrays of slots.
     pub const BLANK: Arrival = Arrival {
         station: 0,
         message: Message::BLANK,
@@ -257,7 +258,7 @@ pub struct Report {
 }
 
 impl Report {
-    // To fill slots with.
+    // A constant, since it fills arrays of slots.
     pub const BLANK: Report = Report {
         station: 0,
         service: Service::Reset,

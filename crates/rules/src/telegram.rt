@@ -4,7 +4,7 @@ ghost use Rattle.std.specs.Prelude.{◌≡◌};
 
 use crate::message::Message;
 use fault::Fault;
-use frame::{Content, Control, Format};
+use frame::{Content, Control, Format, MOST_OCTETS};
 
 // A content whose user octets are a message.
 #[derive(Clone, Copy, PartialEq, Eq, Debug)]
@@ -25,7 +25,7 @@ pub enum Telegram {
 pub fn read_telegram<F: Format>(burst: &[u16]) -> Result<Telegram, Fault>
     ensures { result ≡ telegram_read (F.Format.verdict burst.now) }
 {
-    let mut user = [0; 64];
+    let mut user = [0; MOST_OCTETS];
     match F::read(burst, &mut user)? {
         Content::Single => Ok(Telegram::Single),
         Content::Fixed { control, address } => Ok(Telegram::Fixed { control, address }),
@@ -51,9 +51,13 @@ pub fn write_telegram<F: Format>(telegram: Telegram, buffer: &mut [u16]) -> Resu
     ensures written { buffer.new ≡ buffer_said F.Format.LONGEST F.Format.frame telegram buffer.old }
 {
     match telegram {
-        Telegram::Single => F::write(Content::Single, &[0; 64], buffer),
+        Telegram::Single => F::write(Content::Single, &[0; MOST_OCTETS], buffer),
         Telegram::Fixed { control, address } => {
-            F::write(Content::Fixed { control, address }, &[0; 64], buffer)
+            F::write(
+                Content::Fixed { control, address },
+                &[0; MOST_OCTETS],
+                buffer,
+            )
         }
         Telegram::Variable {
             control,
