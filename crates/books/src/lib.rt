@@ -24,7 +24,7 @@ pub struct Books {
     offers: Vec<OfferState>,
     waiting1: VecDeque<usize>,
     waiting2: VecDeque<usize>,
-    // the number of the offer that was handed out last, 0 if none was, as it is counted in what the books show
+    // the number of the offer that was handed out last; 0 for none, as the account counts
     newest: usize,
     arrived: Vec<usize>,
 }
@@ -46,8 +46,8 @@ impl Books {
         }
     }
 
-    // Room for one more entry in every book. No value stands for that room: it would borrow the site, whose calls of the
-    // library come between the room and the entry.
+    // Room for one more entry in every book. No value stands for that room: it would borrow the site, whose calls of
+    // the library come between the room and the entry.
     pub fn reserve(&mut self) -> Result<(), AllocError>
         ensures kept { seen self.new ≡ seen self.old }
         ensures ready { is_ok result ≡ true → Ready self.new }
