@@ -19,7 +19,6 @@ use Rattle.queue.specs.Fifo.{take_contents}
 use Rattle.rules.specs.Reader as rd
 use Rattle.rules.specs.Reader.{Deed, Turn, still, took, took_in, busy, gave, bare}
 use Rattle.rules.specs.Records.{outcome_of}
-use Rattle.rules.specs.declared.message.Message.{Message}
 use Rattle.rules.specs.declared.records.Class.{Class}
 use Rattle.rules.specs.declared.records.Class.TheVariants.{First, Second}
 use Rattle.rules.specs.declared.records.Ending.{Ending}
@@ -277,27 +276,3 @@ shows_turned n t v s h =
     let s2 : Station = record { reader = s.reader; down = s1.down; up = with_handed (marks t.mark s.up.handed) s.up } in
     let v1 = cond (took_in t.deed) (enters n v) v in
     shows_given t.deed (marked_seen t.mark v1) s2 (shows_marked t.mark v1 s1 (shows_taken n t.deed v s h))
-
--- a fetch of what arrived
-pub shows_fetched :
-    (m : Message) (v : Seen) (s : Station) →
-    Shows v s →
-    Shows v (record {
-      reader = s.reader;
-      down = s.down;
-      up = record { offered = s.up.offered; waiting1 = s.up.waiting1; waiting2 = s.up.waiting2; handed = s.up.handed; arrived = s.up.arrived; fetched = m ∷ s.up.fetched };
-    })
-shows_fetched m v s h = (
-  h.0,
-  record {
-    accepted = h.1.accepted;
-    offers = h.1.offers;
-    waiting1 = h.1.waiting1;
-    waiting2 = h.1.waiting2;
-    newest = h.1.newest;
-    arrived = h.1.arrived;
-    given1 = h.1.given1;
-    given2 = h.1.given2;
-    given = h.1.given;
-  },
-)

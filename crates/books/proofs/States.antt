@@ -1,28 +1,17 @@
 -- Lists of states, and a change of one of them.
-use Rattle.std.proofs.Common.{◌≡◌, ℕ, zero, suc, ◌-◌, ◌<◌, ◌≤◌, Bool, true, false, cond, eqb, ◌⊎◌, List, [], ◌∷◌, ◌++◌, reverse, length, get_or, set, sym, refl, ap, ◌∙◌, subst, ⊎_elim, arith}
+use Rattle.std.proofs.Common.{◌≡◌, ℕ, zero, suc, ◌-◌, ◌≤◌, Bool, true, false, cond, eqb, List, [], ◌∷◌, ◌++◌, reverse, length, get_or, set, sym, refl, ap, ◌∙◌, subst, ⊎_elim, arith}
 use mathlib.Core.List.{reverse-cons}
 use lib.Dec.{eqb-zero-suc}
 use Rattle.account.specs.declared.books.OfferState.{OfferState}
 use Rattle.books.specs.Seen.{with_state}
-use Rattle.std.proofs.lemmas.List.{get_or-set_other, get_or-set_same, length_push, length-set, set_at, set_past}
+use Rattle.std.proofs.lemmas.List.{get_or-set_other, get_or-set_same, length_push, length-set, set_at}
 use Rattle.std.proofs.lemmas.Bool.{cases_eq, cond-false, cond-true, eq-eqb, ne_eqb}
-
--- the last of none is not changed
-pub set_none : {A : Type 0} (l : List A) (x : A) → length l ≡ 0 → set l (length l - 1) x ≡ l
-set_none l x e = set_past l (length l - 1) x (omega arith)
 
 -- the last of a list is the first of it from behind
 pub set_last : {A : Type 0} (l : List A) (y x : A) → set (reverse (y ∷ l)) (length (reverse (y ∷ l)) - 1) x ≡ reverse (x ∷ l)
 set_last l y x =
     let place : length (reverse l) ≡ length (reverse l ++ (y ∷ [])) - 1 = omega (arith, length_push (reverse l) y) in
     ap (λ k. set k (length k - 1) x) (reverse-cons y l) ∙ set_at (reverse l) y [] x _ place ∙ sym (reverse-cons x l)
-
--- a number that no offer has
-pub with_state_none : (n : ℕ) (s : OfferState) (l : List OfferState) → (n ≡ 0) ⊎ (length l < n) → with_state n s l ≡ l
-with_state_none zero s l h = refl
-with_state_none (suc n) s l h =
-    let past : length l ≤ n = ⊎_elim (λ e. omega arith) (λ e. omega arith) h in
-    set_past l n s past
 
 pub with_state_length : (n : ℕ) (s : OfferState) (l : List OfferState) → length (with_state n s l) ≡ length l
 with_state_length zero s l = refl

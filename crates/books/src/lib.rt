@@ -24,7 +24,7 @@ pub struct Books {
     offers: Vec<OfferState>,
     waiting1: VecDeque<usize>,
     waiting2: VecDeque<usize>,
-    // the number of the offer that was handed out last, 0 if none was, as it is counted in what the books show
+    // the number of the offer that was handed out last; 0 for none, as the account counts
     newest: usize,
     arrived: Vec<usize>,
 }
@@ -46,8 +46,8 @@ impl Books {
         }
     }
 
-    // Room for one more entry in every book. No value stands for that room: it would borrow the site, whose calls of the
-    // library come between the room and the entry.
+    // Room for one more entry in every book. No value stands for that room: it would borrow the site, whose calls of
+    // the library come between the room and the entry.
     pub fn reserve(&mut self) -> Result<(), AllocError>
         ensures kept { seen self.new ≡ seen self.old }
         ensures ready { is_ok result ≡ true → Ready self.new }
@@ -74,10 +74,8 @@ impl Books {
     fn end_send(&mut self, outcome: Outcome)
         ensures { seen self.new ≡ ended outcome (seen self.old) }
     {
-        let count = self.sends.len();
-        if count > 0 {
-            let last = count - 1;
-            self.sends[last] = SendState::Ended(outcome);
+        if let Some(last) = self.sends.last_mut() {
+            *last = SendState::Ended(outcome);
         }
     }
 
@@ -141,11 +139,10 @@ impl Books {
     fn set_newest(&mut self, state: OfferState)
         ensures { seen self.new ≡ with_newest state (seen self.old) }
     {
-        let number = self.newest;
-        let count = self.offers.len();
-        if number == 0 || number > count {
-            return;
+        if let Some(at) = self.newest.checked_sub(1) {
+            if let Some(offer) = self.offers.get_mut(at) {
+                *offer = state;
+            }
         }
-        self.offers[number - 1] = state;
     }
 }

@@ -92,6 +92,7 @@ fn cut_short(symbols: &[u16], cut: Option<usize>) -> Option<&[u16]>
     }
 }
 
+// A symbol lies in 16 bits.
 fn is_within(flip: Flip, count: usize, width: u32) -> bool
     ensures { result ≡ is_within count width flip }
 {

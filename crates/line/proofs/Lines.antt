@@ -1,5 +1,5 @@
 -- The line in memory: its bursts as plain data, place by place.
-use Rattle.std.proofs.Common.{◌≡◌, ℕ, zero, suc, ◌+◌, ◌-◌, ◌*◌, ◌^◌, ◌<◌, ◌≤◌, Bool, true, false, cond, ◌&&◌, eqb, ltb, ◌⊎◌, List, [], ◌∷◌, ◌++◌, map, length, get_or, take, drop, set, replicate, Some, None, Option, sym, refl, ap, ◌∙◌, ⊎_elim, arith}
+use Rattle.std.proofs.Common.{◌≡◌, ℕ, zero, suc, ◌+◌, ◌-◌, ◌*◌, ◌^◌, ◌<◌, ◌≤◌, Bool, true, false, cond, ◌&&◌, eqb, ltb, ◌⊎◌, List, [], ◌∷◌, ◌++◌, length, get_or, take, drop, set, replicate, Some, None, Option, sym, refl, ap, ◌∙◌, ⊎_elim, arith}
 use Rattle.line.proofs.Flags.{all_true, most_true, take_cleared}
 use Rattle.line.proofs.Ways.{on_way_parts, pairs_arrived, pairs_launched}
 use Rattle.line.specs.Bursts.{flight, flights}
@@ -9,7 +9,6 @@ use Rattle.line.specs.declared.Line.{Line}
 use Rattle.line.specs.declared.burst.Burst.{Burst}
 use Rattle.std.proofs.lemmas.List.{drop_all, drop-map, get_or_past, length-drop, length-take, map_push, take-replicate}
 use Rattle.std.proofs.lemmas.Bool.{and_from, and_left, and_right, both_ways, cases_lt, cond-false, cond-true, eq-eqb, false≢true, le-ltb, lt-ltb, ne_eqb}
-use Rattle.std.specs.Option.{option_map}
 use Rattle.std.specs.List.{slice_get}
 
 none_apart : (n e : ℕ) (bs : List Burst) → n ≤ e → under_way e (flights n bs) ≡ []
@@ -34,11 +33,6 @@ none_sent v h e = ap (under_way e) (drop_all v.quiet v.bursts (omega arith))
 pub no_flights : (m n : ℕ) (bs : List Burst) → length bs ≤ 0 → flights m bs ≡ flights n bs
 no_flights m n [] h = refl
 no_flights m n (b ∷ bs) h = absurd (omega arith)
-
-nth_map : {A B : Type 0} (f : A → B) (xs : List A) (i : ℕ) → slice_get (map f xs) i ≡ option_map f (slice_get xs i)
-nth_map f [] i = refl
-nth_map f (x ∷ xs) zero = refl
-nth_map f (x ∷ xs) (suc i) = nth_map f xs i
 
 off_line : (n e i : ℕ) (bs : List Burst) → n ≤ e → marked e (slice_get (flights n bs) i) ≡ false
 off_line n e i [] h = refl

@@ -36,7 +36,8 @@ impl Line {
         Some(end)
     }
 
-    // Room for one burst more, so that the next `launch` is not refused. No value stands for it: it would borrow the site.
+    // Room for one burst more, so that the next `launch` is not refused. No value stands for that room, since it would
+    // keep the line borrowed.
     pub fn reserve(&mut self) -> Result<(), AllocError>
         ensures room { MatchResult result (λ _. room self.new ≡ true) (λ _. room self.old ≡ false) }
         ensures same { view self.new ≡ view self.old }
@@ -64,7 +65,8 @@ impl Line {
         Ok(self.bursts.len())
     }
 
-    // Burst k is not on the way to that end any more, heard or lost; false, as of a set, and nothing done if it was not.
+    // Burst k is not on the way to that end any more, heard or lost; answers false, as a set's `remove` does, and does
+    // nothing if it was not.
     pub fn arrive(&mut self, end: usize, k: usize) -> bool
         ensures answer { result ≡ on_way end k (view self.old) }
         ensures after { view self.new ≡ arrived end k (view self.old) }

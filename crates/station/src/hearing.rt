@@ -39,7 +39,8 @@ impl<F: Format> Station<F> {
         Ok(heard)
     }
 
-    // The class of which fewer wait now than did before.
+    // The class of which fewer wait now than did before. What is heard names no class, so the queue that became shorter
+    // tells.
     fn handed_out(&self, first: usize, second: usize) -> Option<Class>
         ensures { result ≡ shorter first second (reader_of self.now) }
     {
