@@ -1,7 +1,7 @@
 // What a reader does with a burst that it hears.
 ghost use Rattle.frame.specs.Controls.{bit, code_of};
 ghost use Rattle.queue.specs.Fifo.{take_answer, take_contents};
-ghost use Rattle.reader.specs.Hearing.{Follows, heard_answer, heard_buffer, hearing, response, task_of};
+ghost use Rattle.reader.specs.Hearing.{Follows, heard_answer, heard_buffer, hearing, task_of};
 ghost use Rattle.reader.specs.View.{view};
 ghost use Rattle.rules.specs.Functions.{function_of};
 ghost use Rattle.rules.specs.Queues.{holding};
