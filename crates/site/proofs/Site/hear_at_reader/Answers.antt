@@ -1,4 +1,4 @@
-use Rattle.std.proofs.Common.{◌≡◌, suc, ◌+◌, ◌-◌, true, cond, ltb, length, Some, Err, vec_items, sym, ap, ◌∙◌, subst, arith, MatchOption}
+use Rattle.std.proofs.Common.{◌≡◌, suc, ◌-◌, true, cond, ltb, length, Some, Err, vec_items, sym, ap, ◌∙◌, subst, MatchOption}
 use Rattle.account.specs.Books.{Station}
 use Rattle.account.specs.Line.{reader_hears}
 use Rattle.damage.specs.Damages.{hearing}
@@ -8,7 +8,7 @@ use Rattle.readers.proofs.Lent.{lent_changed, lent_unmade}
 use Rattle.readers.specs.Readers.{at, place_of, readers}
 use Rattle.rules.specs.Reader.{hear, mark_heard, record_after}
 use Rattle.rules.specs.Telegrams.{telegram_read}
-use Rattle.site.proofs.Placed.{placed}
+use Rattle.site.proofs.Placed.{end_placed, placed}
 use Rattle.site.proofs.Site.hear_at_reader.Goals as goal
 use Rattle.site.proofs.Steps.{heard_is}
 use Rattle.site.proofs.Turns.{after, answered_filled, at_reader, turn_of, turns_come}
@@ -28,12 +28,14 @@ returns g c =
     let m₁ = seen c.prepare.new.self in
     let m' = seen c.answer.new.self in
     let r = c.answer.result in
-    let place = c.in_ok-place.place in
+    let end = c.in_ok-end.end in
+    let there = end_placed _ end (placed c.end_of.result end c.in_ok-end.ensures.value ∙ c.end_of.ensures) in
+    let place = there.0 in
     let heard = c.in_ok-heard.heard.items in
     let old = c.args.marked.now in
     let new = c.hear-answer.new.marked in
-    let next : place + 1 ≡ suc place = omega arith in
-    let at_place = placed c.find.result place c.in_ok-place.ensures.value ∙ c.find.ensures.place in
+    let next : end ≡ suc place = there.2 in
+    let at_place = there.1 in
     let on : on_way (suc place) k m.line ≡ true = ap (λ n. on_way n k m.line) (sym next) ∙ sym c.if-not-is_on_way.ensures in
     let p = c.in_ok-heard.ensures in
     let q = c.in_ok-buffer.ensures in
@@ -63,7 +65,7 @@ returns g c =
       written_so = subst (λ o. MatchOption o (b₁ ≡ b₀) (λ y. b₁ ≡ cond z b₀ (heard_buffer F (turn_of F brief burst y.reader) b₀))) e.reader s.written;
       shown_so = lent_changed a l _ x w g' e.value became s.shown;
       unmade_so = λ unmade. lent_unmade a l _ x w e.value became z _ _ s.moved s.noted unmade;
-      answered_so = answered_filled a (place + 1) (suc place) k ho c.in_ok-buffer.buffer.len b₁ _ (with_readers xs m₁) m' r
+      answered_so = answered_filled a end (suc place) k ho c.in_ok-buffer.buffer.len b₁ _ (with_readers xs m₁) m' r
           next (c.hear-answer.auto.buffer ∙ c.deref_mut.ensures.len) c.answer.ensures;
     }) in
     record {
