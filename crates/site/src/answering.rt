@@ -84,9 +84,7 @@ impl<F: Format> Site<F> {
         let heard = self.listen(k, damage)?;
         let mut buffer = self.prepare(address, places)?;
         let number = self.number_of(k);
-        let Some(station) = self.readers.get_mut(address) else {
-            return Err(Trouble::NoReader);
-        };
+        let station = self.readers.get_mut(address).ok_or(Trouble::NoReader)?;
         let answer = station.hear(number, &heard, marked, &mut buffer);
         self.answer(address, end, k, answer, buffer)
     }
