@@ -7,6 +7,7 @@ use Rattle.std.proofs.ByRecursion.{All-get_or}
 use Rattle.std.proofs.lemmas.Bool.{eqb-false, eqb-true}
 use Rattle.std.proofs.lemmas.Bool.Decides.{nat_tests}
 use Rattle.std.specs.List.{AllByRecursion}
+use Rattle.std.proofs.lemmas.Option.{same_Some}
 
 abbrev address_of : Station → ℕ
 address_of s = s.reader.address
@@ -30,9 +31,6 @@ spaced_other (a ∷ l) (suc i) (suc j) s h g n e = spaced_other l i j s.2 (omega
 
 -- ## the reader of an address
 
-some_same : {X : Type 0} {x y : X} → Some x ≡ Some y → x ≡ y
-some_same e = cc
-
 pub change_none : (a : ℕ) (f : Station → Station) (l : List Station) → AllByRecursion (λ b. eqb b a ≡ false) (addresses l) → change a f l ≡ l
 change_none a f [] h = refl
 change_none a f (s ∷ l) h = ap₂ (λ z r. cond z (f s) s ∷ r) h.0 (change_none a f l h.1)
@@ -54,7 +52,7 @@ change_alike a f g (t ∷ l) s p e q = go (eqb (address_of t) a) refl e (λ d. c
         → cond z (f t) t ∷ change a f l ≡ cond z (g t) t ∷ change a g l
     go true is d k =
         let n = subst (λ b. AllByRecursion (λ c. eqb c b ≡ false) (addresses l)) (eqb-true (address_of t) a is) p.1 in
-        let same : f t ≡ g t = subst (λ u. f u ≡ g u) (sym (some_same d)) q in
+        let same : f t ≡ g t = subst (λ u. f u ≡ g u) (sym (same_Some _ _ d)) q in
         ap₂ ◌∷◌ same (change_none a f l n ∙ sym (change_none a g l n))
     go false is d k = ap (λ r. t ∷ r) (k d)
 

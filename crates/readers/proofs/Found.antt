@@ -8,32 +8,27 @@ use Rattle.readers.specs.Readers.{Kept, ShowsReader, at, place, place_of}
 use Rattle.std.proofs.lemmas.Bool.{eqb-true}
 use Rattle.std.specs.Option.{option_map}
 use Rattle.std.specs.List.{AllByRecursion}
-
-none_some : {A X : Type 0} {x : X} → None ≡ Some x → A
-none_some e = let z : ◌≡◌ {A = ℕ} 0 1 = cc in let w : ⊥ = omega arith in absurd w
-
-some_same : {X : Type 0} {x y : X} → Some x ≡ Some y → x ≡ y
-some_same e = cc
+use Rattle.std.proofs.lemmas.Option.{none-some, same_Some}
 
 -- ## the place of an address
 
 pub place_some : (a : ℕ) (l : List ℕ) (i : ℕ) → place a l ≡ Some i → (i < length l) × (get_or l i 0 ≡ a)
-place_some a [] i e = none_some e
+place_some a [] i e = absurd (none-some _ e)
 place_some a (b ∷ l) i e = go (eqb b a) refl (place a l) e (λ j. place_some a l j)
   where
     go : (z : Bool) → eqb b a ≡ z → (o : Option ℕ) → cond z (Some 0) (option_map suc o) ≡ Some i → ((j : ℕ) → o ≡ Some j → (j < length l) × (get_or l j 0 ≡ a)) → (i < length (b ∷ l)) × (get_or (b ∷ l) i 0 ≡ a)
-    go true is o d k = subst (λ n. (n < length (b ∷ l)) × (get_or (b ∷ l) n 0 ≡ a)) (some_same d) (omega arith, eqb-true b a is)
-    go false is None d k = none_some d
-    go false is (Some j) d k = let q = k j refl in subst (λ n. (n < length (b ∷ l)) × (get_or (b ∷ l) n 0 ≡ a)) (some_same d) (omega (arith, q.0), q.1)
+    go true is o d k = subst (λ n. (n < length (b ∷ l)) × (get_or (b ∷ l) n 0 ≡ a)) (same_Some _ _ d) (omega arith, eqb-true b a is)
+    go false is None d k = absurd (none-some _ d)
+    go false is (Some j) d k = let q = k j refl in subst (λ n. (n < length (b ∷ l)) × (get_or (b ∷ l) n 0 ≡ a)) (same_Some _ _ d) (omega (arith, q.0), q.1)
 
 place_none : (a : ℕ) (l : List ℕ) → place a l ≡ None → AllByRecursion (λ b. eqb b a ≡ false) l
 place_none a [] e = tt
 place_none a (b ∷ l) e = go (eqb b a) refl (place a l) e (λ d. place_none a l d)
   where
     go : (z : Bool) → eqb b a ≡ z → (o : Option ℕ) → cond z (Some 0) (option_map suc o) ≡ None → (o ≡ None → AllByRecursion (λ c. eqb c a ≡ false) l) → AllByRecursion (λ c. eqb c a ≡ false) (b ∷ l)
-    go true is o d k = none_some (sym d)
+    go true is o d k = absurd (none-some _ (sym d))
     go false is None d k = (is, k refl)
-    go false is (Some j) d k = none_some (sym d)
+    go false is (Some j) d k = absurd (none-some _ (sym d))
 
 abbrev address_of : Kept → ℕ
 address_of x = x.reader.address

@@ -10,12 +10,7 @@ use Rattle.station.specs.declared.Station.{Station}
 use Rattle.std.proofs.lemmas.Bool.{eq-eqb, eqb-true, ne_eqb, true≢false}
 use Rattle.std.specs.List.{AllByRecursion, AllWithin, HoldsAt}
 use Rattle.std.specs.Option.{option_map}
-
-none_some : {A X : Type 0} {x : X} → None ≡ Some x → A
-none_some e = let z : ◌≡◌ {A = ℕ} 0 1 = cc in let w : ⊥ = omega arith in absurd w
-
-some_same : {X : Type 0} {x y : X} → Some x ≡ Some y → x ≡ y
-some_same e = cc
+use Rattle.std.proofs.lemmas.Option.{none-some, same_Some}
 
 module _ {F : Type 0} (a : ℕ) where
   abbrev is_here : Station F → Bool
@@ -53,18 +48,18 @@ module _ {F : Type 0} (a : ℕ) where
   pub lent_at :
       (l : List (Station F)) (i : ℕ) → place_of a (map kept l) ≡ Some i →
       ((x : Station F) → x ≡ get_or l i x → station_at a l ≡ Some x) × ((w : Station F) → set l i w ≡ replaced a w l)
-  lent_at [] i e = none_some e
+  lent_at [] i e = absurd (none-some _ e)
   lent_at (y ∷ l) i e = go (is_here y) (place_of a (map kept l)) e (λ j d. lent_at l j d)
     where
       go : (z : Bool) (o : Option ℕ) → cond z (Some 0) (option_map suc o) ≡ Some i
           → ((j : ℕ) → o ≡ Some j → ((x : Station F) → x ≡ get_or l j x → station_at a l ≡ Some x) × ((w : Station F) → set l j w ≡ replaced a w l))
           → ((x : Station F) → x ≡ get_or (y ∷ l) i x → cond z (Some y) (station_at a l) ≡ Some x) × ((w : Station F) → set (y ∷ l) i w ≡ cond z (w ∷ l) (y ∷ replaced a w l))
       go true o d k =
-          subst (λ n. ((x : Station F) → x ≡ get_or (y ∷ l) n x → Some y ≡ Some x) × ((w : Station F) → set (y ∷ l) n w ≡ w ∷ l)) (some_same d) (λ x q. ap Some (sym q), λ w. refl)
-      go false None d k = none_some d
+          subst (λ n. ((x : Station F) → x ≡ get_or (y ∷ l) n x → Some y ≡ Some x) × ((w : Station F) → set (y ∷ l) n w ≡ w ∷ l)) (same_Some _ _ d) (λ x q. ap Some (sym q), λ w. refl)
+      go false None d k = absurd (none-some _ d)
       go false (Some j) d k =
           let p = k j refl in
-          subst (λ n. ((x : Station F) → x ≡ get_or (y ∷ l) n x → station_at a l ≡ Some x) × ((w : Station F) → set (y ∷ l) n w ≡ y ∷ replaced a w l)) (some_same d)
+          subst (λ n. ((x : Station F) → x ≡ get_or (y ∷ l) n x → station_at a l ≡ Some x) × ((w : Station F) → set (y ∷ l) n w ≡ y ∷ replaced a w l)) (same_Some _ _ d)
           (λ x q. p.0 x q, λ w. ap (λ r. y ∷ r) (p.1 w))
 
   pub lent_none : (l : List (Station F)) → place_of a (map kept l) ≡ None → (station_at a l ≡ None) × ((w : Station F) → l ≡ replaced a w l)
@@ -74,9 +69,9 @@ module _ {F : Type 0} (a : ℕ) where
       go : (z : Bool) (o : Option ℕ) → cond z (Some 0) (option_map suc o) ≡ None
           → (o ≡ None → (station_at a l ≡ None) × ((w : Station F) → l ≡ replaced a w l))
           → (cond z (Some y) (station_at a l) ≡ None) × ((w : Station F) → y ∷ l ≡ cond z (w ∷ l) (y ∷ replaced a w l))
-      go true o d k = none_some (sym d)
+      go true o d k = absurd (none-some _ (sym d))
       go false None d k = let p = k refl in (p.0, λ w. ap (λ r. y ∷ r) (p.1 w))
-      go false (Some j) d k = none_some (sym d)
+      go false (Some j) d k = absurd (none-some _ (sym d))
 
   -- ## the reader that is lent
 
@@ -98,7 +93,7 @@ module _ {F : Type 0} (a : ℕ) where
   replaced_changed :
       (l : List (Station F)) (x w : Station F) (f : account.Station → account.Station) → station_at a l ≡ Some x → ShownChange x w f →
       Changes ShowsReader (map kept l) (map kept (replaced a w l)) (change a f)
-  replaced_changed [] x w f e k ys apart p = none_some e
+  replaced_changed [] x w f e k ys apart p = absurd (none-some _ e)
   replaced_changed (y ∷ l) x w f e k [] apart p = absurd p
   replaced_changed (y ∷ l) x w f e k (s ∷ ys) apart p = go (is_here y) refl e (λ d. replaced_changed l x w f d k ys apart.2 p.1)
     where
@@ -108,7 +103,7 @@ module _ {F : Type 0} (a : ℕ) where
       go true is d r =
           let there : eqb s.reader.address a ≡ true = ap (λ r. eqb r.address a) (sym p.0.0) ∙ is in
           let others = subst (λ b. AllByRecursion (λ c. eqb c b ≡ false) (addresses ys)) (eqb-true s.reader.address a there) apart.1 in
-          let lent : ShownChange y w f = subst (λ u. ShownChange u w f) (sym (some_same d)) k in (
+          let lent : ShownChange y w f = subst (λ u. ShownChange u w f) (sym (same_Some _ _ d)) k in (
             subst (λ z. ShowsReader (kept w) (cond z (f s) s)) (sym there) (lent s p.0),
             subst (Paired ShowsReader (map kept l)) (sym (change_none a f ys others)) p.1,
           )
@@ -132,7 +127,7 @@ module _ {F : Type 0} (a : ℕ) where
       go : (z : Bool) → is_here y ≡ z → cond z (Some y) (station_at a l) ≡ None
           → (station_at a l ≡ None → Paired ShowsReader (map kept l) (change a f ys))
           → Paired ShowsReader (kept y ∷ map kept l) (cond (eqb s.reader.address a) (f s) s ∷ change a f ys)
-      go true is d r = none_some (sym d)
+      go true is d r = absurd (none-some _ (sym d))
       go false is d r =
           let there : eqb s.reader.address a ≡ false = ap (λ r. eqb r.address a) (sym p.0.0) ∙ is in
           (subst (λ z. ShowsReader (kept y) (cond z (f s) s)) (sym there) p.0, r d)
@@ -147,16 +142,16 @@ module _ {F : Type 0} (a : ℕ) where
   replaced_same (y ∷ l) x w e q = go (is_here y) e (λ d. replaced_same l x w d q)
     where
       go : (z : Bool) → cond z (Some y) (station_at a l) ≡ Some x → (station_at a l ≡ Some x → map kept (replaced a w l) ≡ map kept l) → map kept (cond z (w ∷ l) (y ∷ replaced a w l)) ≡ kept y ∷ map kept l
-      go true d r = ap (λ k. k ∷ map kept l) (q ∙ ap kept (sym (some_same d)))
+      go true d r = ap (λ k. k ∷ map kept l) (q ∙ ap kept (sym (same_Some _ _ d)))
       go false d r = ap (λ t. kept y ∷ t) (r d)
 
   replaced_now : (l : List (Station F)) (x w : Station F) → station_at a l ≡ Some x → kept w ≡ kept x → station_at a (replaced a w l) ≡ Some w
-  replaced_now [] x w e q = none_some e
+  replaced_now [] x w e q = absurd (none-some _ e)
   replaced_now (y ∷ l) x w e q = go (is_here y) refl e (λ d. replaced_now l x w d q)
     where
       go : (z : Bool) → is_here y ≡ z → cond z (Some y) (station_at a l) ≡ Some x → (station_at a l ≡ Some x → station_at a (replaced a w l) ≡ Some w) → station_at a (cond z (w ∷ l) (y ∷ replaced a w l)) ≡ Some w
       go true is d r =
-          let here : is_here w ≡ true = ap (λ k. eqb k.reader.address a) (q ∙ ap kept (sym (some_same d))) ∙ is in
+          let here : is_here w ≡ true = ap (λ k. eqb k.reader.address a) (q ∙ ap kept (sym (same_Some _ _ d))) ∙ is in
           ap (λ z. cond z (Some w) (station_at a l)) here
       go false is d r = ap (λ z. cond z (Some y) (station_at a (replaced a w l))) is ∙ r d
 

@@ -1,7 +1,6 @@
 -- Lists, place by place: one list, and two whose elements are in pairs.
-use Rattle.std.proofs.Common.{◌≡◌, ℕ, zero, suc, ◌<◌, false, List, [], ◌∷◌, ◌++◌, map, length, get_or, set, replicate, Some, refl, ap, arith}
+use Rattle.std.proofs.Common.{◌≡◌, ℕ, zero, suc, ◌<◌, false, List, [], ◌∷◌, ◌++◌, length, get_or, set, replicate, Some, refl, ap, arith}
 use Rattle.readers.specs.Pairs.{Paired}
-use Rattle.std.specs.Option.{option_map}
 use Rattle.std.specs.List.{slice_get}
 
 -- ## one list
@@ -28,11 +27,6 @@ nth_set_other (y ∷ xs) x zero zero n = absurd (n refl)
 nth_set_other (y ∷ xs) x zero (suc j) n = refl
 nth_set_other (y ∷ xs) x (suc k) zero n = refl
 nth_set_other (y ∷ xs) x (suc k) (suc j) n = nth_set_other xs x k j (λ e. n (ap suc e))
-
-pub nth_map : {A B : Type 0} (f : A → B) (xs : List A) (k : ℕ) → slice_get (map f xs) k ≡ option_map f (slice_get xs k)
-nth_map f [] k = refl
-nth_map f (x ∷ xs) zero = refl
-nth_map f (x ∷ xs) (suc k) = nth_map f xs k
 
 pub all_false : (n i : ℕ) → get_or (replicate n false) i false ≡ false
 all_false zero i = refl

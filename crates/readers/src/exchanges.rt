@@ -17,6 +17,8 @@ impl<F: Format> Readers<F> {
         ensures same { readers self.new ≡ readers self.old }
         ensures ready { is_ok result ≡ true → ReadyAt address self.new }
     {
+        // No reader there wants no memory, which no caller should have to say; a closure's write to a lent station is
+        // not followed.
         match self.get_mut(address) {
             Some(station) => station.reserve(),
             None => Ok(()),

@@ -54,10 +54,7 @@ impl<F: Format> Readers<F> {
     pub fn get(&self, address: u8) -> Option<&Station<F>>
         ensures { option_map (λ x. kept x.now) result ≡ at address (readers self.now) }
     {
-        match self.find(address) {
-            Some(i) => Some(&self.all[i]),
-            None => None,
-        }
+        Some(&self.all[self.find(address)?])
     }
 
     // The reader of this address, to call.
@@ -66,10 +63,8 @@ impl<F: Format> Readers<F> {
         ensures value { option_map (λ x. x.now) result ≡ station_at address self.old.all.items }
         ensures reader { option_map (λ x. kept x.now) result ≡ at address (readers self.old) }
     {
-        match self.find(address) {
-            Some(i) => Some(self.station_mut(i)),
-            None => None,
-        }
+        let place = self.find(address)?;
+        Some(self.station_mut(place))
     }
 
     fn station_mut(&mut self, place: usize) -> &mut Station<F>

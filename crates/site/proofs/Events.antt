@@ -14,7 +14,8 @@ use Rattle.frame.specs.declared.Format.{Ghosts}
 use Rattle.line.specs.Ways as memory
 use Rattle.line.specs.Ways.{View, arrived, as_sent, launched, on_way, quieted, sent_at}
 use Rattle.readers.proofs.Addresses.{change_alike}
-use Rattle.readers.proofs.Places.{nth_map, paired_push}
+use Rattle.readers.proofs.Places.{paired_push}
+use Rattle.std.proofs.lemmas.Option.{slice_get-map}
 use Rattle.readers.specs.Pairs.{Changes, Paired, Spaced, Tells, addresses}
 use Rattle.readers.specs.Readers.{Kept, ShowsReader}
 use Rattle.rules.specs.Concentrator as co
@@ -241,9 +242,9 @@ module _ {X : Type 0} (F : Ghosts X) where
           let some : eqb (suc k) 0 ≡ false = ne_eqb (suc k) 0 (λ z. omega arith) in
           ap (λ z. option_map (λ f. f.sent) (cond z None (slice_get bs (suc k - 1)))) some ∙
           ap (λ n. option_map (λ f. f.sent) (slice_get bs n)) back ∙
-          sym (nth_map (λ f. f.sent) bs k) ∙
+          sym (slice_get-map (λ f. f.sent) bs k) ∙
           ap (λ l. slice_get l k) carried_here.sent ∙
-          nth_map (sent_of F) w.bursts k ∙
+          slice_get-map (sent_of F) w.bursts k ∙
           ap (option_map (sent_of F)) b_nth
 
       pub is_heard : SizeLaw F.WIDTH F.LONGEST F.frame → (heard : List ℕ)

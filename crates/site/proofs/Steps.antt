@@ -39,7 +39,7 @@ use Rattle.rules.specs.declared.records.Request.{Request}
 use Rattle.rules.specs.declared.telegram.Telegram.{Telegram}
 use Rattle.site.proofs.Events.{doubted, hearing_ends, hearing_refused, is_heard, request_refused, request_sent, sent_again, sent_is, stands_joined, stands_lost, stands_offered, time_out_refused}
 use Rattle.site.specs.Shown.{Memory, Stands, burst_of, ends_of, with_reader}
-use Rattle.site.specs.Sites.{Concluded, Hears, Leads, Noted, ReadyFor, ReadyOnce, Repeats, Transmitted, begun, is_open, join_answer, joined_at, next_burst, number_of, sent_as, settled, station_of, symbols_of, taken_off, timed_as, trouble_of, undamaged, with_line, with_readers}
+use Rattle.site.specs.Sites.{Concluded, Hears, Leads, Noted, ReadyFor, ReadyOnce, Repeats, Transmitted, begun, is_open, join_answer, joined_at, next_burst, number_of, sent_as, settled, symbols_of, taken_off, timed_as, trouble_of, undamaged, with_line, with_readers}
 use Rattle.site.specs.Troubles.{is_made, no_memory, told}
 use Rattle.site.specs.declared.trouble.TimedOut.{TimedOut}
 use Rattle.site.specs.declared.trouble.TimedOut.TheVariants.{Repeated, Doubted}
@@ -101,10 +101,6 @@ ready_sent frame short a q k k₂ sent l s e r = go (co.request short a q k) (λ
         subst (λ z. ReadyOnce z k₂.exchange l) (sym s)
         (subst (λ z. ReadyFor z l) (sym (ap (λ z. z.exchange) e ∙ p.1)) (subst (λ z. ReadyAt z l) (sym p.0) r))
 
-pub ready_for : {F : Type 0} (o : Option Exchange) (l : Readers F) → ReadyAt (station_of o) l → ReadyFor o l
-ready_for None l r = tt
-ready_for (Some x) l r = r
-
 -- ## what is heard
 
 -- what is heard with damage within the limits
@@ -160,6 +156,18 @@ module _ {X : Type 0} (F : Ghosts X) where
       λ on₁ e₁. stands_lost F m m' w st i a p.0 p.1 (k - 1) on₁ (ap (λ z. z.started) e₁) (ap (λ z. z.concentrator) e₁)
       (unaltered m.readers m'.readers (ap (λ z. z.readers) e₁)) (ap (λ z. z.line) e₁) in
       subst (λ z. on_way i z m.line ≡ true → m' ≡ with_line (arrived i z m.line) m → Stands F m' (step F (line.loses a (k - 1) (burst_of z w)) w)) back go on e
+
+  -- a burst that is lost at an end, if it was on the way there
+  pub losses_lead : (m m' : Memory) (i a k : ℕ) (r : Result (Unit {0}) Trouble) → r ≡ cond (on_way i k m.line) (Ok tt) (Err NotOnWay)
+      → m' ≡ cond (on_way i k m.line) (with_line (arrived i k m.line) m) m
+      → ((w : World) → Stands F m w → (get_or (ends_of w.stations) i 0 ≡ a) × (i < length (ends_of w.stations)))
+      → Leads F (is_made r) m m' (λ w. line.loses a (k - 1) (burst_of k w))
+  losses_lead m m' i a k r e q at_i = go (on_way i k m.line) refl e q
+    where
+      go : (z : Bool) → on_way i k m.line ≡ z → r ≡ cond z (Ok tt) (Err NotOnWay) → m' ≡ cond z (with_line (arrived i k m.line) m) m
+          → Leads F (is_made r) m m' (λ w. line.loses a (k - 1) (burst_of k w))
+      go true on e q = subst (λ z. Leads F (is_made z) m m' (λ w. line.loses a (k - 1) (burst_of k w))) (sym e) (losses_come m m' i a k on q at_i)
+      go false on e q = subst (λ z. Leads F (is_made z) m m' (λ w. line.loses a (k - 1) (burst_of k w))) (sym e) q
 
   -- a reader joins
   pub joins_come : (m m' : Memory) (f : ReaderPlan) (xs : List Kept) → is_open m ≡ true → None ≡ place_of f.address m.readers

@@ -39,12 +39,7 @@ use Rattle.station.specs.Shown as stations
 use Rattle.station.specs.declared.Refusal.{Refusal}
 use Rattle.station.specs.declared.Refusal.TheVariants as refusal
 use Rattle.std.specs.Option.{option_map}
-
-none_some : {A X : Type 0} {x : X} → None ≡ Some x → A
-none_some e = let z : ◌≡◌ {A = ℕ} 0 1 = cc in let w : ⊥ = omega arith in absurd w
-
-some_same : {X : Type 0} {x y : X} → Some x ≡ Some y → x ≡ y
-some_same e = cc
+use Rattle.std.proofs.lemmas.Option.{none-some, same_Some}
 
 err_ok : {A X Y : Type 0} {f : Y} {x : X} → Err f ≡ Ok x → A
 err_ok e = let z : ◌≡◌ {A = ℕ} 0 1 = cc in let w : ⊥ = omega arith in absurd w
@@ -65,13 +60,13 @@ length_arrived e k v = go (on_way e k v)
 
 -- the reader that is found after a change of it
 found_changed : (a : ℕ) (g : Station → Station) (l : List Station) (s : Station) → found a l ≡ Some s → (g s).reader.address ≡ s.reader.address → found a (change a g l) ≡ Some (g s)
-found_changed a g [] s e h = none_some e
+found_changed a g [] s e h = absurd (none-some _ e)
 found_changed a g (t ∷ l) s e h = go (eqb t.reader.address a) refl e (λ d. found_changed a g l s d h)
   where
     go : (z : Bool) → eqb t.reader.address a ≡ z → cond z (Some t) (found a l) ≡ Some s → (found a l ≡ Some s → found a (change a g l) ≡ Some (g s))
         → found a (cond z (g t) t ∷ change a g l) ≡ Some (g s)
     go true is d k =
-        let q = some_same d in
+        let q = same_Some _ _ d in
         let same : eqb (g t).reader.address a ≡ true = subst (λ u. eqb (g u).reader.address a ≡ true) (sym q) (ap (λ b. eqb b a) h ∙ subst (λ u. eqb u.reader.address a ≡ true) q is) in
         ap (λ z. cond z (Some (g t)) (found a (change a g l))) same ∙ ap (λ u. Some (g u)) q
     go false is d k = ap (λ z. cond z (Some t) (found a (change a g l))) is ∙ k d
@@ -239,9 +234,9 @@ module _ {X : Type 0} (F : Ghosts X) (size : SizeLaw F.WIDTH F.LONGEST F.frame) 
           → (Fits F.WIDTH (symbols_of (sent_at (suc (k - 1)) m.line)) → Damaged F.WIDTH F.GUARD (symbols_of (sent_at (suc (k - 1)) m.line)) heard)
           → Parts F m brief heard b₀ b₁ (number_of (sent_at (suc (k - 1)) m.line)) xs a (suc p) (suc (k - 1)) ho old new m' r
           → TurnedSo F brief heard m m' a (k - 1) (suc (k - 1)) o old new r
-      go None is t v w placed on₁ d₁ q = none_some (sym t)
+      go None is t v w placed on₁ d₁ q = absurd (none-some _ (sym t))
       go (Some x) is t v w placed on₁ d₁ q =
-          turn_goes F brief heard size m m' xs a p (k - 1) placed b₀ b₁ x is old new r on₁ d₁ ho (some_same t) v w q.shown_so q.unmade_so q.answered_so
+          turn_goes F brief heard size m m' xs a p (k - 1) placed b₀ b₁ x is old new r on₁ d₁ ho (same_Some _ _ t) v w q.shown_so q.unmade_so q.answered_so
 
 -- the answer of a hearing at the end of a reader
 pub at_reader : {A : Type 0} (r : Result A Trouble) (o : Option ℕ) (p : ℕ) (on : ℕ → Bool) (z : Result (List ℕ) DamageError) (l : List ℕ) (f : List ℕ → Result A Trouble)

@@ -6,10 +6,10 @@ use Rattle.line.proofs.Flags.{cleared}
 use Rattle.line.proofs.Ways.{taken}
 use Rattle.line.specs.Ways.{Flight, Sent, Silent, View, arrived, changed_at, landed, launched, marked, new_line, on_way, quieted}
 use Rattle.rules.specs.declared.telegram.Telegram.{Telegram}
-use Rattle.readers.proofs.Places.{all_false, nth_front, nth_last, nth_map, nth_set_other, nth_set_same}
+use Rattle.readers.proofs.Places.{all_false, nth_front, nth_last, nth_set_other, nth_set_same}
 use Rattle.site.specs.Shown.{Carries, flies, flies_to, sent_of}
 use Rattle.std.proofs.lemmas.List.{get_or-replicate, get_or-set_other, length-map, length_push, map_push}
-use Rattle.std.proofs.lemmas.Option.{slice_get_past, slice_get_read}
+use Rattle.std.proofs.lemmas.Option.{slice_get-map, slice_get_past, slice_get_read}
 use Rattle.std.proofs.lemmas.Bool.{and_left, and_right, both_ways, cases_Bool, cases_eq, cases_lt, cond-true, le-ltb, lt-ltb, ne_eqb}
 use Rattle.std.specs.Option.{option_map}
 use Rattle.std.specs.List.{slice_get}
@@ -226,7 +226,7 @@ module _ {X : Type 0} (F : Ghosts X) (v : View) (ends : List ℕ) (bs : List Bur
           (λ (l : k < length v.bursts). at_place i k (quieted v) ∙ and_left _ (marked i (slice_get v.bursts k)) (le-ltb (length v.bursts) (suc k) (omega arith)))
           (λ l. none_there i k (quieted v) l)
           (cases_lt k (length v.bursts))
-          ∙ sym (ap (flies_to (get_or ends i 0)) (nth_map lost_everywhere bs k) ∙ gone_there (get_or ends i 0) (slice_get bs k))
+          ∙ sym (ap (flies_to (get_or ends i 0)) (slice_get-map lost_everywhere bs k) ∙ gone_there (get_or ends i 0) (slice_get bs k))
 
   -- ## an end more, before the first burst
 

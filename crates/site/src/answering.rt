@@ -26,6 +26,7 @@ impl<F: Format> Site<F> {
         ensures moved { seen self.new ≡ taken_off end k (seen self.old) }
         ensures room { room self.new.line ≡ room self.old.line }
     {
+        // It was on the way.
         let _ = self.line.arrive(end, k);
         self.started = true;
     }
@@ -42,6 +43,7 @@ impl<F: Format> Site<F> {
         requires { room self.old.line ≡ true }
         ensures { Answered address end k heard buffer.items (seen self.old) (seen self.new) result }
     {
+        // A refused burst was heard all the same; for want of memory it was not.
         match heard {
             Ok(heard) => {
                 self.take_off(end, k);
@@ -61,8 +63,8 @@ impl<F: Format> Site<F> {
         }
     }
 
-    // A reader hears burst k, and answers it with a buffer of so many places; the message that was out, if it is marked,
-    // then stands in the caller's record: 20, read's faults, 8, 9, 10, 11, 12.
+    // A reader hears burst k, and answers it with a buffer of so many places; the message that was out, if it is
+    // marked, then stands in the caller's record: 20, read's faults, 8, 9, 10, 11, 12.
     pub fn hear_at_reader(
         &mut self,
         address: u8,
@@ -75,17 +77,14 @@ impl<F: Format> Site<F> {
         ensures kept { marked.new ≡ marked_by result (at address (seen self.old).readers) marked.old }
         ensures steps { Leads F.Format (is_made result) (seen self.old) (seen self.new) (λ w. reader_hears (nat_lt places F.LONGEST) address (k - 1) (burst_of k w) (heard_of damage.now.cut damage.now.flips.items (symbols_of (sent_at k (seen self.old).line)))) }
     {
-        let place = self.readers.find(address).ok_or(Trouble::NoReader)?;
-        let end = place + 1;
+        let end = self.end_of(address).ok_or(Trouble::NoReader)?;
         if !self.line.is_on_way(end, k) {
             return Err(Trouble::NotOnWay);
         }
         let heard = self.listen(k, damage)?;
         let mut buffer = self.prepare(address, places)?;
         let number = self.number_of(k);
-        let Some(station) = self.readers.get_mut(address) else {
-            return Err(Trouble::NoReader);
-        };
+        let station = self.readers.get_mut(address).ok_or(Trouble::NoReader)?;
         let answer = station.hear(number, &heard, marked, &mut buffer);
         self.answer(address, end, k, answer, buffer)
     }

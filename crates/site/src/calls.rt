@@ -31,9 +31,7 @@ impl<F: Format> Site<F> {
         ensures steps { Leads F.Format (is_made result) (seen self.old) (seen self.new) (λ w. offers address class octets.now) }
     {
         are_octets(octets);
-        let Some(station) = self.readers.get_mut(address) else {
-            return Err(Trouble::NoReader);
-        };
+        let station = self.readers.get_mut(address).ok_or(Trouble::NoReader)?;
         let answer = station.offer(class, octets);
         self.settle(answer)
     }
@@ -55,9 +53,7 @@ impl<F: Format> Site<F> {
         ensures answer { result ≡ fault_of (option_map (λ x. take_answer x.reader.inbox.records) (at address (seen self.old).readers)) }
         ensures steps { Leads F.Format (is_made result) (seen self.old) (seen self.new) (λ w. collects address) }
     {
-        let Some(station) = self.readers.get_mut(address) else {
-            return Err(Trouble::NoReader);
-        };
+        let station = self.readers.get_mut(address).ok_or(Trouble::NoReader)?;
         let collected = station.collect();
         self.started = true;
         Ok(collected?)
@@ -69,9 +65,7 @@ impl<F: Format> Site<F> {
         ensures kept { MatchOption (at address (seen self.old).readers) (marked.new ≡ marked.old) (λ x. marked.new ≡ record_after (mark_of Doubtful x.reader.out) x.reader.out marked.old) }
         ensures steps { Leads F.Format (is_made result) (seen self.old) (seen self.new) (λ w. restarts address) }
     {
-        let Some(station) = self.readers.get_mut(address) else {
-            return Err(Trouble::NoReader);
-        };
+        let station = self.readers.get_mut(address).ok_or(Trouble::NoReader)?;
         let mark = station.restart(marked);
         self.started = true;
         Ok(mark)

@@ -2,13 +2,13 @@
 ghost use Rattle.account.specs.Line.{concentrator_hears, loses, loses_all};
 ghost use Rattle.damage.specs.Damages.{heard as heard_of, hearing as damaging};
 ghost use Rattle.frame.specs.Damage.{Damaged, Fits};
-ghost use Rattle.line.specs.Ways.{on_way, sent_at};
+ghost use Rattle.line.specs.Ways.{arrived, on_way, sent_at};
 ghost use Rattle.readers.specs.Readers.{place_of};
 ghost use Rattle.rules.specs.Concentrator.{hear};
 ghost use Rattle.rules.specs.Exchanges.{heard_answer};
 ghost use Rattle.rules.specs.Telegrams.{telegram_read};
 ghost use Rattle.site.specs.Shown.{burst_of};
-ghost use Rattle.site.specs.Sites.{Hears, Leads, Listened, ReadyFor, at_end, number_of, seen, symbols_of, undamaged};
+ghost use Rattle.site.specs.Sites.{Hears, Leads, Listened, ReadyFor, at_end, number_of, seen, symbols_of, undamaged, with_line};
 ghost use Rattle.site.specs.Troubles.{is_made, no_memory, told};
 ghost use Rattle.site.specs.declared.trouble.Trouble.TheVariants as trouble;
 ghost use Rattle.std.specs.Prelude.{◌≡◌, suc, ◌-◌, true, IfOk, if◌then◌else◌, Ok, Err, OnOk};
@@ -32,7 +32,7 @@ impl<F: Format> Site<F> {
         Ok(damage::heard::<F>(self.heap, symbols, damage)?)
     }
 
-    // The number of burst k, 0 if there is none.
+    // The number of burst k; 0 for none, as the account numbers bursts.
     pub(crate) fn number_of(&self, k: usize) -> usize
         ensures { result ≡ number_of (sent_at k (seen self.now).line) }
     {
@@ -58,6 +58,7 @@ impl<F: Format> Site<F> {
         ensures { Hears exchange k outcome (seen self.old) (seen self.new) result }
     {
         let number = self.number_of(k);
+        // It was on the way.
         let _ = self.line.arrive(0, k);
         self.started = true;
         let outcome = outcome?;
@@ -80,16 +81,31 @@ impl<F: Format> Site<F> {
         self.conclude(exchange, k, outcome)
     }
 
+    // The end of the line that a reader is at; the concentrator is at end 0.
+    pub(crate) fn end_of(&self, address: u8) -> Option<usize>
+        ensures { result ≡ option_map suc (place_of address (seen self.now).readers) }
+    {
+        Some(self.readers.find(address)? + 1)
+    }
+
+    // The line loses burst k at an end.
+    fn lose(&mut self, end: usize, k: usize) -> Result<(), Trouble>
+        ensures answer { result ≡ (if on_way end k (seen self.old).line then Ok tt else Err trouble.NotOnWay) }
+        ensures moved { seen self.new ≡ (if on_way end k (seen self.old).line then with_line (arrived end k (seen self.old).line) (seen self.old) else seen self.old) }
+    {
+        if self.line.arrive(end, k) {
+            Ok(())
+        } else {
+            Err(Trouble::NotOnWay)
+        }
+    }
+
     // The line loses burst k at the concentrator.
     pub fn lose_at_concentrator(&mut self, k: usize) -> Result<(), Trouble>
         ensures answer { result ≡ (if on_way 0 k (seen self.old).line then Ok tt else Err trouble.NotOnWay) }
         ensures steps { Leads F.Format (is_made result) (seen self.old) (seen self.new) (λ w. loses 0 (k - 1) (burst_of k w)) }
     {
-        if self.line.arrive(0, k) {
-            Ok(())
-        } else {
-            Err(Trouble::NotOnWay)
-        }
+        self.lose(0, k)
     }
 
     // The line loses burst k at a reader.
@@ -97,12 +113,8 @@ impl<F: Format> Site<F> {
         ensures answer { result ≡ at_end (option_map suc (place_of address (seen self.old).readers)) (λ end. (if on_way end k (seen self.old).line then Ok tt else Err trouble.NotOnWay)) }
         ensures steps { Leads F.Format (is_made result) (seen self.old) (seen self.new) (λ w. loses address (k - 1) (burst_of k w)) }
     {
-        let place = self.readers.find(address).ok_or(Trouble::NoReader)?;
-        if self.line.arrive(place + 1, k) {
-            Ok(())
-        } else {
-            Err(Trouble::NotOnWay)
-        }
+        let end = self.end_of(address).ok_or(Trouble::NoReader)?;
+        self.lose(end, k)
     }
 
     // The line loses every burst at every end.

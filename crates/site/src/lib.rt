@@ -26,7 +26,7 @@ use rules::records::{Arrival, ConcentratorPlan, ReaderPlan, Report};
 use std::alloc::Global;
 pub use trouble::{Answer, TimedOut, Trouble};
 
-// A call was made, refused or not, if it is started; readers join before that.
+// `started` once a call was made, refused or not; readers join before that.
 #[derive(Drop)]
 pub struct Site<F> {
     heap: Global,
@@ -74,6 +74,7 @@ impl<F: Format> Site<F> {
         }
         reader::check(plan)?;
         self.readers.join(self.heap, plan)?;
+        // It is open, so an end is free.
         let _ = self.line.join();
         Ok(())
     }

@@ -37,11 +37,13 @@ impl<F: Format> Site<F> {
         ensures moved { seen self.new ≡ with_line (launched (as_sent (take count symbols.items) number) (seen self.old).line) (seen self.old) }
     {
         symbols.truncate(count);
+        // There is room for it, by `requires`.
         let _ = self.line.launch(symbols, number);
         self.line.count()
     }
 
-    // Writes the open request into the books of its station, and gives the number of its burst.
+    // Writes the open request into the books of its station, and gives the number of its burst; 0 for none, as the
+    // account numbers bursts.
     fn note_request(&mut self) -> usize
         requires { ReadyFor (seen self.old).concentrator.exchange self.old.readers }
         ensures noted { Noted (seen self.old).concentrator.exchange result (seen self.old) (seen self.new) }
@@ -50,6 +52,7 @@ impl<F: Format> Site<F> {
         match self.concentrator.exchange() {
             Some(exchange) => {
                 let station = exchange.station;
+                // There is room for it, by `requires`.
                 let _ = self.readers.ask(station, exchange.request);
                 self.readers.newest_send(station)
             }
@@ -123,6 +126,7 @@ impl<F: Format> Site<F> {
         ensures { Concluded exchange number outcome (seen self.old) (seen self.new) }
     {
         if let Some(exchange) = exchange {
+            // There is room for it, by `requires`.
             let _ = self
                 .readers
                 .end(exchange.station, number, exchange.request, outcome);
@@ -130,7 +134,7 @@ impl<F: Format> Site<F> {
     }
 }
 
-// The same of what is asked.
+// That bytes are octets, said of a request's, for the account.
 fn are_octets_asked(asked: UserRequest<'_>)
     ensures { OctetsAsked (asking asked.entry) }
 {

@@ -82,7 +82,8 @@ impl From<DamageError> for Trouble {
     }
 }
 
-// What a time-out came to: the frame went out again as this burst, or the exchange ended in doubt.
+// What a time-out came to: the frame went out again as this burst, or the exchange ended in doubt. Not an Option:
+// neither of the two is an absence.
 #[derive(Clone, Copy)]
 pub enum TimedOut {
     Repeated(usize),

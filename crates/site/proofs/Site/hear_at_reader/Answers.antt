@@ -1,14 +1,14 @@
-use Rattle.std.proofs.Common.{◌≡◌, suc, ◌+◌, ◌-◌, true, cond, ltb, length, Some, Err, vec_items, sym, ap, ◌∙◌, subst, arith, MatchOption}
+use Rattle.std.proofs.Common.{◌≡◌, suc, ◌-◌, true, cond, ltb, length, Some, Err, vec_items, sym, ap, ◌∙◌, subst, MatchOption}
 use Rattle.account.specs.Books.{Station}
 use Rattle.account.specs.Line.{reader_hears}
 use Rattle.damage.specs.Damages.{hearing}
 use Rattle.line.specs.Ways.{on_way, sent_at}
 use Rattle.reader.specs.Hearing.{heard_answer, heard_buffer}
 use Rattle.readers.proofs.Lent.{lent_changed, lent_unmade}
-use Rattle.readers.specs.Readers.{at, place_of, readers}
+use Rattle.readers.specs.Readers.{at, kept, place_of, readers}
 use Rattle.rules.specs.Reader.{hear, mark_heard, record_after}
 use Rattle.rules.specs.Telegrams.{telegram_read}
-use Rattle.site.proofs.Placed.{placed}
+use Rattle.site.proofs.Placed.{end_placed, placed, placed_as}
 use Rattle.site.proofs.Site.hear_at_reader.Goals as goal
 use Rattle.site.proofs.Steps.{heard_is}
 use Rattle.site.proofs.Turns.{after, answered_filled, at_reader, turn_of, turns_come}
@@ -28,19 +28,24 @@ returns g c =
     let m₁ = seen c.prepare.new.self in
     let m' = seen c.answer.new.self in
     let r = c.answer.result in
-    let place = c.in_ok-place.place in
+    let end = c.in_ok-end.end in
+    let there = end_placed _ end (placed c.end_of.result end c.in_ok-end.ensures.value ∙ c.end_of.ensures) in
+    let place = there.0 in
     let heard = c.in_ok-heard.heard.items in
     let old = c.args.marked.now in
     let new = c.hear-answer.new.marked in
-    let next : place + 1 ≡ suc place = omega arith in
-    let at_place = placed c.find.result place c.in_ok-place.ensures.value ∙ c.find.ensures.place in
+    let next : end ≡ suc place = there.2 in
+    let at_place = there.1 in
     let on : on_way (suc place) k m.line ≡ true = ap (λ n. on_way n k m.line) (sym next) ∙ sym c.if-not-is_on_way.ensures in
     let p = c.in_ok-heard.ensures in
     let q = c.in_ok-buffer.ensures in
     let s = c.hear-answer.ensures in
-    let e = c.in-Some.ensures in
+    let st = c.in_ok-station.station in
+    let held = c.in_ok-station.ensures.value in
+    let value = placed_as c.get_mut.result st held (λ y. y.now) _ c.get_mut.ensures.value in
+    let reader = placed_as c.get_mut.result st held (λ y. kept y.now) _ c.get_mut.ensures.reader in
     let l = c.prepare.new.self.readers.all.items in
-    let x = c.in-Some.station.now in
+    let x = c.in_ok-station.station.now in
     let w = c.hear-answer.new.self in
     let ho = c.hear-answer.result in
     let z = lacks ho in
@@ -58,12 +63,12 @@ returns g c =
     xs a place k ho old new r q.same (ap length c.deref_mut.ensures.value ∙ q.buffer) c.deref.ensures.value
     (c.number_of-number.ensures ∙ ap (λ z. number_of (sent_at k z.line)) q.same) at_place on p.damaged
     (record {
-      told_so = ap Some s.answer ∙ ap (option_map (λ y. cond z (Err Memory) (told (heard_answer F (turn_of F brief burst y.reader))))) e.reader;
-      kept_so = subst (λ o. MatchOption o (new ≡ old) (λ y. new ≡ cond z old (record_after (mark_heard (turn_of F brief burst y.reader)) y.reader.out old))) e.reader s.kept;
-      written_so = subst (λ o. MatchOption o (b₁ ≡ b₀) (λ y. b₁ ≡ cond z b₀ (heard_buffer F (turn_of F brief burst y.reader) b₀))) e.reader s.written;
-      shown_so = lent_changed a l _ x w g' e.value became s.shown;
-      unmade_so = λ unmade. lent_unmade a l _ x w e.value became z _ _ s.moved s.noted unmade;
-      answered_so = answered_filled a (place + 1) (suc place) k ho c.in_ok-buffer.buffer.len b₁ _ (with_readers xs m₁) m' r
+      told_so = ap Some s.answer ∙ ap (option_map (λ y. cond z (Err Memory) (told (heard_answer F (turn_of F brief burst y.reader))))) reader;
+      kept_so = subst (λ o. MatchOption o (new ≡ old) (λ y. new ≡ cond z old (record_after (mark_heard (turn_of F brief burst y.reader)) y.reader.out old))) reader s.kept;
+      written_so = subst (λ o. MatchOption o (b₁ ≡ b₀) (λ y. b₁ ≡ cond z b₀ (heard_buffer F (turn_of F brief burst y.reader) b₀))) reader s.written;
+      shown_so = lent_changed a l _ x w g' value became s.shown;
+      unmade_so = λ unmade. lent_unmade a l _ x w value became z _ _ s.moved s.noted unmade;
+      answered_so = answered_filled a end (suc place) k ho c.in_ok-buffer.buffer.len b₁ _ (with_readers xs m₁) m' r
           next (c.hear-answer.auto.buffer ∙ c.deref_mut.ensures.len) c.answer.ensures;
     }) in
     record {
