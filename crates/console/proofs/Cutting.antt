@@ -1,5 +1,5 @@
 -- Lemmas on the words of a text: blanks before them, and the first of them.
-use Rattle.std.proofs.Common.{◌≡◌, ℕ, suc, Bool, unwrap_or, true, false, eqb, List, [], ◌∷◌, length, take, drop, sym, refl, ap, ◌∙◌, inl, inr, one-add, arith, true-eqb}
+use Rattle.std.proofs.Common.{◌≡◌, ℕ, suc, Bool, unwrap_or, true, false, eqb, List, [], ◌∷◌, length, drop, sym, refl, ap, ◌∙◌, inl, inr, one-add, arith, true-eqb}
 use Rattle.console.specs.Words.{after_word, blank, first_word, not_empty, onto, parts_of, unblanked, words_of}
 use Rattle.std.proofs.lemmas.Bool.{cases_Bool}
 use Rattle.std.proofs.lemmas.Bool.Decides.{nat_tests}

@@ -1,8 +1,7 @@
 -- Lemmas on the value of digits, as the loop over a word goes through them.
-use Rattle.std.proofs.Common.{◌≡◌, ℕ, ◌+◌, ◌*◌, ◌<◌, ◌≤◌, min, false, eqb, List, [], ◌∷◌, length, get_or, drop, Some, None, Err, refl, ap, inl, inr, arith}
+use Rattle.std.proofs.Common.{◌≡◌, ℕ, ◌+◌, ◌*◌, ◌<◌, ◌≤◌, min, false, eqb, List, [], ◌∷◌, length, get_or, drop, Some, None, refl, ap, inl, inr, arith}
 use Rattle.std.proofs.lemmas.Bool.{cases_lt}
 use Rattle.console.specs.Numbers.{and_then, base_of, digit_of, limited, number_of, value_after}
-use Rattle.console.specs.declared.number.NumberFault.TheVariants.{NoNumber}
 use Rattle.console.specs.declared.number.Radix.{Radix}
 use Rattle.console.specs.declared.number.Radix.TheVariants.{Decimal, Hexadecimal}
 use Rattle.std.proofs.lemmas.List.{drop_more, drop_all}
@@ -44,23 +43,15 @@ pub number_is :
     number_of radix most word ≡ limited most (value_after radix 0 word)
 number_is radix most word e = rw e refl
 
-pub no_digit :
-    (radix : Radix) (most v i : ℕ) (word : List ℕ) →
-    i < length word →
-    digit_of radix (get_or word i 0) ≡ None →
-    limited most (value_after radix v (drop i word)) ≡ Err NoNumber
-no_digit radix most v i word h e = rw (drop_more word i 0 h, e) refl
-
 pub one_digit :
-    (radix : Radix) (most v w b e d i : ℕ) (word : List ℕ) →
+    (radix : Radix) (most v w b d i : ℕ) (word : List ℕ) →
     i < length word →
     digit_of radix (get_or word i 0) ≡ Some d →
     most < 65536 →
     b ≡ base_of radix →
-    e ≡ d →
-    w ≡ min (v * b + e) 65536 →
+    w ≡ min (v * b + d) 65536 →
     limited most (value_after radix w (drop (i + 1) word)) ≡ limited most (value_after radix v (drop i word))
-one_digit radix most v w b e d i word h is_digit k p q m =
+one_digit radix most v w b d i word h is_digit k p m =
     let same : w ≡ min (v * base_of radix + d) 65536 = cc in
     rw (drop_more word i 0 h, is_digit) (capped radix most (v * base_of radix + d) w (drop (i + 1) word) k same)
 

@@ -40,15 +40,10 @@ impl Radix {
         }
     }
 
-    fn digit(self, byte: u8) -> Option<u8>
+    fn digit(self, byte: u8) -> Option<u32>
         ensures { result ≡ digit_of self byte }
     {
-        match (self, byte) {
-            (_, b'0'..=b'9') => Some(byte - b'0'),
-            (Radix::Hexadecimal, b'A'..=b'F') => Some(byte - b'A' + 10),
-            (Radix::Hexadecimal, b'a'..=b'f') => Some(byte - b'a' + 10),
-            _ => None,
-        }
+        char::from(byte).to_digit(self.base())
     }
 }
 
@@ -62,10 +57,8 @@ pub fn parse_number(word: &[u8], radix: Radix, most: u16) -> Result<u16, NumberF
     // A loop and no fold, since the bound of the value is carried from digit to digit.
     let mut value = 0;
     for byte in word {
-        let Some(digit) = radix.digit(*byte) else {
-            return Err(NumberFault::NoNumber);
-        };
-        value = (value * radix.base() + u32::from(digit)).min(BEYOND);
+        let digit = radix.digit(*byte).ok_or(NumberFault::NoNumber)?;
+        value = (value * radix.base() + digit).min(BEYOND);
     }
     limit(value, most)
 }

@@ -4,7 +4,7 @@ ghost use Rattle.std.specs.Prelude.{◌≡◌, ◌+◌, ◌≤◌, ℕ, Bool, []
 ghost use Rattle.std.specs.List.{position_or_len};
 ghost use Rattle.std.specs.Iterator.{at_most};
 
-// The words that are still to come.
+// The words that are still to come. No chain of `split` and `filter`: its type has no name for a field.
 #[derive(Clone, Copy)]
 pub struct Words<'a> {
     rest: &'a [u8],

@@ -81,9 +81,18 @@ impl fmt::Display for Contents<'_> {
 // What a reader has done beside its answer: taken a message in, and marked the one that was out.
 #[derive(Clone, Copy)]
 pub struct Effects {
-    pub taken: bool,
-    pub mark: Option<Mark>,
-    pub marked: Message,
+    taken: bool,
+    marked: Option<(Mark, Message)>,
+}
+
+impl Effects {
+    // The record of the marked message counts if there is a mark.
+    pub fn new(taken: bool, mark: Option<Mark>, marked: Message) -> Effects {
+        Effects {
+            taken,
+            marked: mark.map(|mark| (mark, marked)),
+        }
+    }
 }
 
 impl fmt::Display for Effects {
@@ -91,8 +100,7 @@ impl fmt::Display for Effects {
         if self.taken {
             f.write_str(" taken")?;
         }
-        if let Some(mark) = self.mark {
-            let marked = self.marked;
+        if let Some((mark, marked)) = self.marked {
             write!(f, " {mark}: {marked}")?;
         }
         Ok(())

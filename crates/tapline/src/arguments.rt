@@ -48,18 +48,24 @@ impl Unit for Flip {
 
 #[derive(Clone, Copy)]
 pub struct Arguments<'a> {
-    // how the command is written, for those who write it otherwise
-    usage: &'static str,
+    // where lists are kept
+    heap: Global,
+    // the command, for the message to those who write it otherwise
+    command: &'a str,
     words: Words<'a>,
 }
 
 impl<'a> Arguments<'a> {
-    pub fn new(usage: &'static str, words: Words<'a>) -> Arguments<'a> {
-        Arguments { usage, words }
+    pub fn new(heap: Global, command: &'a str, words: Words<'a>) -> Arguments<'a> {
+        Arguments {
+            heap,
+            command,
+            words,
+        }
     }
 
     pub fn usage(&self) -> Mistake<'a> {
-        Mistake::Usage(self.usage)
+        Mistake::Usage(self.command)
     }
 
     fn word(&mut self) -> Result<&'a [u8], Mistake<'a>> {
@@ -72,7 +78,7 @@ impl<'a> Arguments<'a> {
         from_utf8(word).map_err(|_| self.usage())
     }
 
-    // Whether this is the next word, which is then taken.
+    // Whether this is the next word, which is then taken. A bool: the caller has the word already.
     pub fn take_keyword(&mut self, keyword: &str) -> bool {
         let mut rest = self.words;
         let taken = rest.next() == Some(keyword.as_bytes());
@@ -120,9 +126,15 @@ impl<'a> Arguments<'a> {
         }
     }
 
+    // An empty list; no word may be left.
+    pub fn empty_list<T: Unit>(self) -> Result<Vec<T>, Mistake<'a>> {
+        self.end()?;
+        Ok(Vec::new(self.heap))
+    }
+
     // All the words that are left, as octets or symbols.
-    pub fn list<T: Unit>(self, heap: Global) -> Result<Vec<T>, Mistake<'a>> {
-        let mut values = Vec::new(heap);
+    pub fn list<T: Unit>(self) -> Result<Vec<T>, Mistake<'a>> {
+        let mut values = Vec::new(self.heap);
         for word in self.words {
             if values.len() == LONGEST_LIST {
                 return Err(Mistake::LongList);

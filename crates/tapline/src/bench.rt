@@ -13,7 +13,7 @@ pub trait Bench: Drop {
 
     type Call;
 
-    // The library is asked before there is any memory.
+    // Asks the library about the plan before it takes memory.
     fn make(heap: Global, plan: Self::Plan) -> Result<Self, Failure<'static>>
     where
         Self: Sized;

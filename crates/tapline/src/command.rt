@@ -68,10 +68,10 @@ pub enum Wish {
     Poll(u8),
 }
 
-impl Wish {
-    // The same, with its octets lent.
-    pub fn request(&self) -> UserRequest<'_> {
-        match self {
+// The same, with its octets lent.
+impl<'a> From<&'a Wish> for UserRequest<'a> {
+    fn from(wish: &'a Wish) -> UserRequest<'a> {
+        match wish {
             Wish::Reset => UserRequest::Reset,
             Wish::Status => UserRequest::Status,
             Wish::Send(octets) => UserRequest::Send(octets.as_slice()),
@@ -88,25 +88,21 @@ impl Command {
             return Ok(None);
         };
         let name = from_utf8(name).map_err(|_| Mistake::UnknownCommand)?;
+        let arguments = Arguments::new(heap, name, words);
         let command = match name {
-            "format" => parse_format(Arguments::new("format", words))?,
-            "buffer" => parse_buffer(Arguments::new("buffer", words))?,
-            "write" => parse_write(heap, Arguments::new("write", words))?,
-            "read" => {
-                let burst = Arguments::new("read", words).list(heap)?;
-                Command::Frame(FrameCall::Read(burst))
-            }
-            "bench" => parse_bench(Arguments::new("bench", words))?,
-            "r" => parse_reader_call(heap, Arguments::new("r", words))?,
-            "c" => parse_bench_call(heap, Arguments::new("c", words))?,
-            "site" => Command::Site(parse_concentrator_plan(Arguments::new("site", words))?),
-            "reader" => {
-                let plan = parse_reader_plan(Arguments::new("reader", words))?;
-                Command::OnSite(SiteCall::Join(plan))
-            }
+            "format" => parse_format(arguments)?,
+            "buffer" => parse_buffer(arguments)?,
+            "write" => parse_write(arguments)?,
+            "read" => Command::Frame(FrameCall::Read(arguments.list()?)),
+            "bench" => parse_bench(arguments)?,
+            "r" => parse_reader_call(arguments)?,
+            "c" => parse_bench_call(arguments)?,
+            "site" => Command::Site(parse_concentrator_plan(arguments)?),
+            "reader" => Command::OnSite(SiteCall::Join(parse_reader_plan(arguments)?)),
+            // What is left is a site's, or unknown: its usage is not told by name.
             _ => {
-                let arguments = Arguments::new("this command", words);
-                Command::OnSite(parse_site_call(heap, name, arguments)?)
+                let arguments = Arguments::new(heap, "this command", words);
+                Command::OnSite(parse_site_call(name, arguments)?)
             }
         };
         Ok(Some(command))
@@ -126,18 +122,18 @@ fn parse_buffer<'a>(mut arguments: Arguments<'a>) -> Result<Command, Mistake<'a>
     Ok(Command::Buffer(length))
 }
 
-fn parse_write<'a>(heap: Global, mut arguments: Arguments<'a>) -> Result<Command, Mistake<'a>> {
+fn parse_write<'a>(mut arguments: Arguments<'a>) -> Result<Command, Mistake<'a>> {
     let call = match arguments.keyword()? {
-        "single" => write_bare(heap, Content::Single, arguments)?,
+        "single" => write_bare(Content::Single, arguments)?,
         "fixed" => {
             let control = arguments.control()?;
             let address = arguments.octet()?;
-            write_bare(heap, Content::Fixed { control, address }, arguments)?
+            write_bare(Content::Fixed { control, address }, arguments)?
         }
         "variable" => {
             let control = arguments.control()?;
             let address = arguments.octet()?;
-            let octets = arguments.list(heap)?;
+            let octets = arguments.list()?;
             let content = Content::Variable {
                 control,
                 address,
@@ -151,17 +147,12 @@ fn parse_write<'a>(heap: Global, mut arguments: Arguments<'a>) -> Result<Command
 }
 
 // A content without user octets.
-fn write_bare<'a>(
-    heap: Global,
-    content: Content,
-    arguments: Arguments<'a>,
-) -> Result<FrameCall, Mistake<'a>> {
-    arguments.end()?;
-    let octets = Vec::new(heap);
+fn write_bare<'a>(content: Content, arguments: Arguments<'a>) -> Result<FrameCall, Mistake<'a>> {
+    let octets = arguments.empty_list()?;
     Ok(FrameCall::Write { content, octets })
 }
 
-// How many octets a content has; of more than 64, the least number that no content may have.
+// How many octets a content has; of more than 64, 65, which write refuses alike.
 fn content_count(octets: &[u8]) -> u8 {
     octets.len().min(MOST_OCTETS + 1) as u8
 }
@@ -197,15 +188,12 @@ fn parse_concentrator_plan<'a>(
     Ok(plan)
 }
 
-fn parse_reader_call<'a>(
-    heap: Global,
-    mut arguments: Arguments<'a>,
-) -> Result<Command, Mistake<'a>> {
+fn parse_reader_call<'a>(mut arguments: Arguments<'a>) -> Result<Command, Mistake<'a>> {
     let call = match arguments.keyword()? {
-        "hear" => ReaderCall::Hear(arguments.list(heap)?),
+        "hear" => ReaderCall::Hear(arguments.list()?),
         "offer" => {
             let class = arguments.capped()?;
-            let octets = arguments.list(heap)?;
+            let octets = arguments.list()?;
             ReaderCall::Offer { class, octets }
         }
         "collect" => {
@@ -221,14 +209,11 @@ fn parse_reader_call<'a>(
     Ok(Command::Reader(call))
 }
 
-fn parse_bench_call<'a>(
-    heap: Global,
-    mut arguments: Arguments<'a>,
-) -> Result<Command, Mistake<'a>> {
+fn parse_bench_call<'a>(mut arguments: Arguments<'a>) -> Result<Command, Mistake<'a>> {
     let call = match arguments.keyword()? {
-        "hear" => BenchCall::Hear(arguments.list(heap)?),
+        "hear" => BenchCall::Hear(arguments.list()?),
         name => {
-            let call = parse_concentrator_call(heap, name, arguments)?;
+            let call = parse_concentrator_call(name, arguments)?;
             BenchCall::Concentrator(call.ok_or(arguments.usage())?)
         }
     };
@@ -237,7 +222,6 @@ fn parse_bench_call<'a>(
 
 // The call of this name; none if a concentrator has no such call.
 pub fn parse_concentrator_call<'a>(
-    heap: Global,
     name: &str,
     mut arguments: Arguments<'a>,
 ) -> Result<Option<ConcentratorCall>, Mistake<'a>> {
@@ -246,7 +230,7 @@ pub fn parse_concentrator_call<'a>(
         "status" => parse_request(arguments, Wish::Status)?,
         "send" => {
             let station = arguments.capped()?;
-            let wish = Wish::Send(arguments.list(heap)?);
+            let wish = Wish::Send(arguments.list()?);
             ConcentratorCall::Request { station, wish }
         }
         "poll" => {

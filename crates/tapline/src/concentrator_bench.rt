@@ -61,12 +61,14 @@ impl<F: Format> AsConcentrator for HeapConcentrator<F> {
 
     fn repeat(&mut self, buffer: &mut [u16], answer: &mut String) -> Result<(), Failure<'static>> {
         match self.time_out(buffer)? {
+            // 0: it has ended, section 10 of docs/RULES.md
             0 => write!(answer, "doubtful")?,
             count => write_frame::<F>(answer, buffer, count)?,
         }
         Ok(())
     }
 
+    // A concentrator and a site both have these calls, and no trait of the library names them.
     fn next_report(&mut self) -> Result<Report, Fault> {
         self.fetch_report()
     }

@@ -38,7 +38,7 @@ pub fn call_concentrator<C: AsConcentrator>(
 ) -> Result<(), Failure<'static>> {
     match call {
         ConcentratorCall::Request { station, wish } => {
-            concentrator.ask(station, wish.request(), buffer, answer)?;
+            concentrator.ask(station, UserRequest::from(&wish), buffer, answer)?;
         }
         ConcentratorCall::TimeOut => concentrator.repeat(buffer, answer)?,
         ConcentratorCall::FetchReport => {

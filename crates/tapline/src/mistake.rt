@@ -11,7 +11,7 @@ const SHOWN: usize = 40;
 pub enum Mistake<'a> {
     UnknownCommand,
     // a word too few, too many, or one that this command does not have
-    Usage(&'static str),
+    Usage(&'a str),
     Number(NumberFault, &'a [u8]),
     LongList,
     // a call of a bench that there is not

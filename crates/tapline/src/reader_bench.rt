@@ -39,11 +39,7 @@ impl<F: Format> Bench for HeapReader<F> {
         match call {
             ReaderCall::Hear(burst) => {
                 let heard = self.hear(burst.as_slice(), &mut marked, buffer)?;
-                let effects = Effects {
-                    taken: heard.taken,
-                    mark: heard.mark,
-                    marked,
-                };
+                let effects = Effects::new(heard.taken, heard.mark, marked);
                 write_frame::<F>(answer, buffer, heard.count)?;
                 write!(answer, "{effects}")?;
             }
@@ -57,11 +53,7 @@ impl<F: Format> Bench for HeapReader<F> {
             }
             ReaderCall::Restart => {
                 let mark = self.restart(&mut marked);
-                let effects = Effects {
-                    taken: false,
-                    mark,
-                    marked,
-                };
+                let effects = Effects::new(false, mark, marked);
                 write!(answer, "restarted{effects}")?;
             }
         }

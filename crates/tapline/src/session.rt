@@ -44,25 +44,26 @@ impl Session {
     }
 
     // Carries out a line, and answers it; an error if it is no command.
-    pub fn answer<'a>(&mut self, number: u64, line: &'a [u8]) -> Result<(), Mistake<'a>> {
+    pub fn answer<'a>(&mut self, line_number: u64, line: &'a [u8]) -> Result<(), Mistake<'a>> {
         self.text.clear();
         self.carry_out(line)
-            .or_else(|failure| self.fail(number, failure))
+            .or_else(|failure| self.fail(line_number, failure))
     }
 
-    // Answers a line that has no result; an error if it is no command.
-    pub fn fail<'a>(&mut self, number: u64, failure: Failure<'a>) -> Result<(), Mistake<'a>> {
+    // Answers the line of this number, which has no result; an error if it is no command.
+    pub fn fail<'a>(&mut self, line_number: u64, failure: Failure<'a>) -> Result<(), Mistake<'a>> {
         self.text.clear();
         // There is room for it.
         let _ = match failure {
+            // Not by the fault's own Display, which has more words than docs/CONSOLE.md wants.
             Failure::Refused(fault) => {
-                let cause = fault.number();
+                let number = fault.number();
                 let layer = fault.layer();
                 let place = fault.place;
-                writeln!(self.text, "refused {cause} {layer} {place}")
+                writeln!(self.text, "refused {number} {layer} {place}")
             }
             Failure::NotAllowed(trouble) => writeln!(self.text, "not allowed: {trouble}"),
-            Failure::Mistake(mistake) => writeln!(self.text, "error {number}: {mistake}"),
+            Failure::Mistake(mistake) => writeln!(self.text, "error {line_number}: {mistake}"),
         };
         match failure {
             Failure::Mistake(mistake) => Err(mistake),

@@ -23,8 +23,7 @@ impl<F: Format> Bench for Site<F> {
     type Call = SiteCall;
 
     fn make(heap: Global, plan: ConcentratorPlan) -> Result<Site<F>, Failure<'static>> {
-        let site = Site::begin(heap, plan)?;
-        Ok(site)
+        Ok(Site::begin(heap, plan)?)
     }
 
     fn call(
@@ -82,11 +81,7 @@ fn hear<F: Format>(
         End::Reader(address) => {
             let mut marked = Message::BLANK;
             let heard = site.hear_at_reader(address, burst, damage, places, &mut marked)?;
-            let effects = Effects {
-                taken: heard.taken,
-                mark: heard.mark,
-                marked,
-            };
+            let effects = Effects::new(heard.taken, heard.mark, marked);
             write_burst(site, heard.burst, answer)?;
             write!(answer, "{effects}")?;
         }
@@ -115,11 +110,7 @@ fn restart<F: Format>(
 ) -> Result<(), Failure<'static>> {
     let mut marked = Message::BLANK;
     let mark = site.restart(address, &mut marked)?;
-    let effects = Effects {
-        taken: false,
-        mark,
-        marked,
-    };
+    let effects = Effects::new(false, mark, marked);
     write!(answer, "restarted{effects}")?;
     Ok(())
 }
@@ -155,6 +146,7 @@ impl<F: Format> AsConcentrator for Site<F> {
         Ok(())
     }
 
+    // A concentrator and a site both have these calls, and no trait of the library names them.
     fn next_report(&mut self) -> Result<Report, Fault> {
         self.fetch_report()
     }

@@ -4,9 +4,8 @@ use crate::command::{ConcentratorCall, parse_concentrator_call};
 use crate::mistake::Mistake;
 use damage::Damage;
 use rules::records::ReaderPlan;
-use std::alloc::Global;
 
-// Who hears a burst, or for whom the line loses it.
+// Who hears a burst, or for whom the line loses it. Not an Option: neither end is an absence.
 #[derive(Clone, Copy)]
 pub enum End {
     Concentrator,
@@ -41,7 +40,6 @@ pub enum SiteCall {
 
 // The call of this name.
 pub fn parse_site_call<'a>(
-    heap: Global,
     name: &str,
     mut arguments: Arguments<'a>,
 ) -> Result<SiteCall, Mistake<'a>> {
@@ -49,7 +47,7 @@ pub fn parse_site_call<'a>(
         "hear" => {
             let end = parse_end(&mut arguments)?;
             let burst = arguments.count()?;
-            let damage = parse_damage(heap, arguments)?;
+            let damage = parse_damage(arguments)?;
             Ok(SiteCall::Hear { end, burst, damage })
         }
         "lose" => {
@@ -62,7 +60,7 @@ pub fn parse_site_call<'a>(
             arguments.end()?;
             Ok(SiteCall::Quiet)
         }
-        "offer" => parse_offer(heap, arguments),
+        "offer" => parse_offer(arguments),
         "collect" => Ok(SiteCall::Collect(parse_address(arguments)?)),
         "restart" => Ok(SiteCall::Restart(parse_address(arguments)?)),
         "account" => {
@@ -70,7 +68,7 @@ pub fn parse_site_call<'a>(
             Ok(SiteCall::Account)
         }
         _ => {
-            let call = parse_concentrator_call(heap, name, arguments)?;
+            let call = parse_concentrator_call(name, arguments)?;
             Ok(SiteCall::Concentrator(call.ok_or(Mistake::UnknownCommand)?))
         }
     }
@@ -82,10 +80,10 @@ fn parse_address<'a>(mut arguments: Arguments<'a>) -> Result<u8, Mistake<'a>> {
     Ok(address)
 }
 
-fn parse_offer<'a>(heap: Global, mut arguments: Arguments<'a>) -> Result<SiteCall, Mistake<'a>> {
+fn parse_offer<'a>(mut arguments: Arguments<'a>) -> Result<SiteCall, Mistake<'a>> {
     let address = arguments.capped()?;
     let class = arguments.capped()?;
-    let octets = arguments.list(heap)?;
+    let octets = arguments.list()?;
     Ok(SiteCall::Offer {
         address,
         class,
@@ -101,22 +99,18 @@ fn parse_end<'a>(arguments: &mut Arguments<'a>) -> Result<End, Mistake<'a>> {
 }
 
 // A cut stands before the flips, and one word brings all of these.
-fn parse_damage<'a>(heap: Global, mut arguments: Arguments<'a>) -> Result<Damage, Mistake<'a>> {
+fn parse_damage<'a>(mut arguments: Arguments<'a>) -> Result<Damage, Mistake<'a>> {
     let cut = if arguments.take_keyword("cut") {
         Some(arguments.count()?)
     } else {
         None
     };
-    if !arguments.take_keyword("flip") {
-        arguments.end()?;
-        return Ok(Damage {
-            cut,
-            flips: Vec::new(heap),
-        });
-    }
-    if arguments.is_empty() {
+    let flips = if !arguments.take_keyword("flip") {
+        arguments.empty_list()?
+    } else if arguments.is_empty() {
         return Err(arguments.usage());
-    }
-    let flips = arguments.list(heap)?;
+    } else {
+        arguments.list()?
+    };
     Ok(Damage { cut, flips })
 }
