@@ -10,6 +10,8 @@ mod concentrator_bench;
 mod concentrator_call;
 mod failure;
 mod frames;
+#[cfg(test)]
+mod lent_ends;
 mod mistake;
 mod reader_bench;
 mod session;
