@@ -11,7 +11,7 @@ pub struct Item {
     pub message: Message,
 }
 
-// A send is open until its exchange ends, and then has the outcome of that.
+// A send is open until its exchange ends, and then has the outcome of that. Not an Option: an open send is no absence.
 #[derive(Clone, Copy, PartialEq, Eq, Debug)]
 pub enum SendState {
     Open,

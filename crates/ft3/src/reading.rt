@@ -1,4 +1,5 @@
-// Reading: the octets of a burst whose symbols are sound, checked as a frame.
+// Reading: the octets of a burst whose symbols are sound, checked as a frame. The kinds of frame are FT1.2's, but each has
+// checks of its own here.
 ghost use Rattle.std.specs.Prelude.{◌≡◌, ◌≤◌, length};
 ghost use Rattle.frame.specs.Contents.{content_read, filled_record};
 ghost use Rattle.ft3.specs.Verdicts.{block_checked, fixed_verdict, headed_verdict, octets_verdict, partner_checked, single_verdict, variable_verdict};

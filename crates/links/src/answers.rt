@@ -48,7 +48,8 @@ fn variable_ends(reply: Option<Reply>, request: Request, message: Message) -> Re
     }
 }
 
-// 8 if a primary station sent it, then 9 if it comes from another station, then 10 if bit 7 is 1.
+// 8 if a primary station sent it, then 9 if it comes from another station, then 10 if bit 7 is 1. A reader asks for the
+// other PRM bit; one check for both ends would take that as a flag.
 fn check_sender(control: Control, address: u8, station: u8) -> Result<(), Fault>
     ensures { (v : Result Ending Fault) → from_station control address station v ≡ after result v }
 {

@@ -84,6 +84,7 @@ impl<S: Slots<Item = Message>, F: Format> Reader<S, F> {
         self.link
     }
 
+    // The queue of a class: one match to look at it, and one to change it.
     fn class(&self, class: Class) -> &Queue<S>
         ensures { result.now ≡ queue_of class self.now }
     {

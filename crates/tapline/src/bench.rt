@@ -18,7 +18,8 @@ pub trait Bench: Drop {
     where
         Self: Sized;
 
-    // Carries out a call, with a buffer for what it writes, and writes its answer.
+    // Carries out a call, with a buffer for what it writes, and writes its answer. The two are fields of one session, lent
+    // side by side.
     fn call(
         &mut self,
         call: Self::Call,
