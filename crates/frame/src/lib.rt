@@ -22,7 +22,8 @@ pub const MOST_OCTETS: usize = 64;
 pub type UserOctets = [u8; MOST_OCTETS];
 
 // What a frame carries. The count stands beside a record of 64 octets, since read is lent one (no heap), and write takes
-// what read gives; a count of none or of more than 64 can be named, and write refuses it.
+// what read gives; a count of none or of more than 64 can be named, and write refuses it. Control and address stand in
+// each kind by name: a pair of them would be one level more at every use.
 #[derive(Clone, Copy, PartialEq, Eq, Debug)]
 pub enum Content {
     Single,

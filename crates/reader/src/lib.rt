@@ -36,8 +36,9 @@ pub struct Reader<S, F> {
     format: PhantomData<F>,
 }
 
-// What an accepted hearing tells: how many symbols the answer has, whether a message was taken into the inbox, and
-// the mark of the message that was out; taken and mark: section 9 of docs/RULES.md.
+// What an accepted hearing tells, as section 9 of docs/RULES.md has it: how many symbols the answer has at the front of the
+// caller's buffer, whether a message was taken into the inbox, and the mark of the message that was out, which stands in
+// the caller's record.
 #[derive(Clone, Copy, PartialEq, Eq, Debug)]
 pub struct Heard {
     pub count: usize,
@@ -56,7 +57,8 @@ pub fn check(plan: ReaderPlan) -> Result<(), Fault>
 }
 
 impl<S: Slots<Item = Message>, F: Format> Reader<S, F> {
-    // A new reader over the slots of its queues, lent or its own; one over a wrong number of slots has a queue that can hold nothing.
+    // A new reader over the slots of its queues, lent or its own; one over a wrong number of slots has a queue that can
+    // hold nothing.
     pub fn over(address: u8, class1: S, class2: S, inbox: S) -> Reader<S, F>
         ensures { view S.items result ≡ new_reader address (length (S.items class1)) (length (S.items class2)) (length (S.items inbox)) }
     {
