@@ -2,7 +2,7 @@
 use Rattle.std.proofs.Common.{◌≡◌, ℕ, suc, ◌+◌, ◌-◌, cond, eqb, List, [], ◌∷◌, ◌++◌, map, reverse, length, set, Some, None, Ok, Option, sym, refl, ap, ◌∙◌, add-one, arith}
 use mathlib.Core.List.{reverse-cons}
 use lib.Dec.{eqb-zero-suc}
-use Rattle.account.specs.Books.{Down, Up, Station, arrives as account_arrives, asked, by_class, collected, ended as account_ended, ended_down, ends_send, enters as account_enters, hands, marks, newest_hand_out, newest_sent, offered as account_offered, oldest_number, restarted, turned, waiting as account_waiting, with_handed}
+use Rattle.account.specs.Books.{Down, Up, Station, arrives as account_arrives, asked, by_class, collected, ended as account_ended, ended_down, ends_send, enters as account_enters, hands, marks, newest_hand_out, newest_sent, offer_state, offered as account_offered, oldest_number, restarted, turned, waiting as account_waiting, with_handed}
 use Rattle.account.specs.Line.{new_station}
 use Rattle.account.specs.declared.books.HandOut.{HandOut}
 use Rattle.account.specs.declared.books.Item.{Item}
@@ -14,7 +14,7 @@ use Rattle.account.specs.declared.books.Sending.{Sending}
 use Rattle.books.proofs.States.{cond_again, getD_more, set_last, with_state_at, with_state_length}
 use Rattle.books.specs.Calls.{asked_seen, brought_seen, class_given, closed_seen, ended_seen, handed_seen, heard_seen, marked_seen, offered_seen}
 use Rattle.books.specs.Seen.{Seen, SeenUp, enters, first_of, handed, marked, nothing_seen, offered, waiting, with_newest}
-use Rattle.books.specs.Shows.{Given, Shows, ShowsUp, numbers, state_of}
+use Rattle.books.specs.Shows.{Given, Shows, ShowsUp, numbers}
 use Rattle.queue.specs.Fifo.{take_contents}
 use Rattle.rules.specs.Reader as rd
 use Rattle.rules.specs.Reader.{Deed, Turn, still, took, took_in, busy, gave, bare}
@@ -162,9 +162,9 @@ shows_offered (rd.accepted c m r) v s h =
     )
 
 -- a mark of what was handed out last
-marked_state : (k : Mark) (l : List HandOut) (n : ℕ) → cond (eqb (newest_hand_out l) (suc n)) (Marked k) (state_of (suc n) l) ≡ state_of (suc n) (marks (Some k) l)
+marked_state : (k : Mark) (l : List HandOut) (n : ℕ) → cond (eqb (newest_hand_out l) (suc n)) (Marked k) (offer_state (suc n) l) ≡ offer_state (suc n) (marks (Some k) l)
 marked_state k [] n = cond-false (eqb 0 (suc n)) (Marked k) Waiting (eqb-zero-suc n)
-marked_state k (h ∷ l) n = cond_again (eqb h.offer.item.number (suc n)) (Marked k) h.state (state_of (suc n) l)
+marked_state k (h ∷ l) n = cond_again (eqb h.offer.item.number (suc n)) (Marked k) h.state (offer_state (suc n) l)
 
 marked_number : (k : Mark) (l : List HandOut) → newest_hand_out l ≡ newest_hand_out (marks (Some k) l)
 marked_number k [] = refl
@@ -187,7 +187,7 @@ shows_marked (Some k) v s h =
         offers = λ n.
             with_state_at j (Marked k) l n Waiting u.given ∙
             ap (λ x. cond (eqb j (suc n)) (Marked k) x) (u.offers n) ∙
-            ap (λ i. cond (eqb i (suc n)) (Marked k) (state_of (suc n) s.up.handed)) u.newest ∙
+            ap (λ i. cond (eqb i (suc n)) (Marked k) (offer_state (suc n) s.up.handed)) u.newest ∙
             marked_state k s.up.handed n;
         waiting1 = u.waiting1;
         waiting2 = u.waiting2;
@@ -258,7 +258,7 @@ shows_given (gave c m) v s h =
         offers = λ n.
             with_state_at j Out l n Waiting was_given ∙
             ap (λ x. cond (eqb j (suc n)) Out x) (u.offers n) ∙
-            ap (λ i. cond (eqb i (suc n)) Out (state_of (suc n) s.up.handed)) number;
+            ap (λ i. cond (eqb i (suc n)) Out (offer_state (suc n) s.up.handed)) number;
         waiting1 = either_shown c (take_contents items) s.up.waiting1 left u.waiting1;
         waiting2 = either_shown c s.up.waiting2 (take_contents items) u.waiting2 left;
         newest = number;

@@ -1,9 +1,7 @@
 -- How the books in memory, which have numbers and states, show the books of the account, which have the messages too.
-use Rattle.std.specs.Prelude.{◌≡◌, ℕ, suc, ◌≤◌, cond, List, [], ◌∷◌, map, reverse, length, ◌==◌, slice_index_or}
-use Rattle.account.specs.Books.{Down, Up, Station, newest_hand_out, newest_sent}
-use Rattle.account.specs.declared.books.HandOut.{HandOut}
+use Rattle.std.specs.Prelude.{◌≡◌, ℕ, suc, ◌≤◌, List, map, reverse, length, slice_index_or}
+use Rattle.account.specs.Books.{Down, Up, Station, newest_hand_out, newest_sent, offer_state}
 use Rattle.account.specs.declared.books.Item.{Item}
-use Rattle.account.specs.declared.books.OfferState.{OfferState}
 use Rattle.account.specs.declared.books.OfferState.TheVariants.{Waiting}
 use Rattle.books.specs.Seen.{Seen, SeenDown, SeenUp}
 use Rattle.std.specs.List.{AllByRecursion}
@@ -11,11 +9,6 @@ use Rattle.std.specs.List.{AllByRecursion}
 -- the numbers of items
 abbrev pub numbers : List Item → List ℕ
 numbers l = map (λ i. i.number) l
-
--- the state of the offer of this number: that of its newest hand-out, and waiting if it was not handed out
-abbrev pub state_of : ℕ → List HandOut → OfferState
-state_of n [] = Waiting
-state_of n (h ∷ l) = cond (h.offer.item.number == n) h.state (state_of n l)
 
 -- the states of the sends and the numbers of what entered are the account's; the number of the newest send is how many there are
 pub record ShowsDown (v : SeenDown) (d : Down) : Type 0 where
@@ -30,7 +23,7 @@ Given v n = n ≤ length v.offers
 -- the states of the offers, and the numbers of what waits, was handed out last and arrived, are the account's; no number is made up
 pub record ShowsUp (v : SeenUp) (u : Up) : Type 0 where
   pub accepted : length v.offers ≡ length u.offered
-  pub offers : (n : ℕ) → slice_index_or v.offers n Waiting ≡ state_of (suc n) u.handed
+  pub offers : (n : ℕ) → slice_index_or v.offers n Waiting ≡ offer_state (suc n) u.handed
   pub waiting1 : v.waiting1 ≡ numbers u.waiting1
   pub waiting2 : v.waiting2 ≡ numbers u.waiting2
   pub newest : v.newest ≡ newest_hand_out u.handed

@@ -1,11 +1,12 @@
 -- The worked cases of the link.
 use Rattle.std.specs.Prelude.{◌≡◌, ℕ, List, [], ◌∷◌, map, replicate, Some, Err}
-use Rattle.cases.specs.Exchanges.{answer_of, heard, hears, linked5, reader5, send5, sent, silence}
+use Rattle.cases.specs.Exchanges.{answer_of, heard, hears, linked5, reader5, send5, silence}
 use Rattle.fault.specs.Causes.{fault}
 use Rattle.fault.specs.declared.Cause.TheVariants.{LinkUnset}
 use Rattle.ft12.specs.Cases.{Cases as Ft12-cases}
 use Rattle.ft3.specs.Cases.{Cases as Ft3-cases}
 use Rattle.ft12.specs.Symbols.{symbol_of}
+use Rattle.rules.specs.Exchanges.{sent_after}
 use Rattle.rules.specs.Concentrator.{no_flags}
 use Rattle.rules.specs.Messages.{message_of}
 use Rattle.rules.specs.Reader.{collected, mark_heard}
@@ -55,9 +56,9 @@ pub record TwoPolls : Type 0 where
 
 -- three repetitions and silence: the fourth time-out reports doubtful with 4 transmissions, and the next send gets 18
 pub record Silence : Type 0 where
-  pub reported : (silence (replicate 4 tt) (sent (send5 0x41 linked5) linked5)).reports.records ≡
+  pub reported : (silence (replicate 4 tt) (sent_after (send5 0x41 linked5) linked5)).reports.records ≡
       record { station = 5; service = Send; outcome = Doubtful; flags = no_flags; transmissions = 4 } ∷ []
-  pub unset : send5 0x41 (silence (replicate 4 tt) (sent (send5 0x41 linked5) linked5)) ≡ Err (fault LinkUnset 0)
+  pub unset : send5 0x41 (silence (replicate 4 tt) (sent_after (send5 0x41 linked5) linked5)) ≡ Err (fault LinkUnset 0)
 
 -- all of them; the longest frames of the two formats have so many symbols
 pub record Cases (longest-ft12 longest-ft3 : ℕ) : Type 0 where

@@ -4,7 +4,8 @@ use Rattle.fault.specs.declared.Fault.{Fault}
 use Rattle.ft12.specs.Frames.{frame_of}
 use Rattle.ft12.specs.Symbols.{symbol_of}
 use Rattle.ft12.specs.Verdicts.{verdict_of}
-use Rattle.rules.specs.Concentrator.{Concentrator, Sent, Timed, again, doubted, for_send, new_concentrator, request, time_out, with_station}
+use Rattle.rules.specs.Concentrator.{Concentrator, Sent, for_send, new_concentrator, request, time_out, with_station}
+use Rattle.rules.specs.Exchanges.{timed_after}
 use Rattle.rules.specs.Links.{reset_link}
 use Rattle.rules.specs.Reader as reader
 use Rattle.rules.specs.Reader.{Reader, Turn, hear_after}
@@ -40,21 +41,11 @@ answer_of (Err f) = []
 abbrev pub linked5 : Concentrator
 linked5 = with_station 5 reset_link (new_concentrator 3 4 4)
 
--- the concentrator after a send of one octet to 5
+-- what a send of one octet to 5 comes to
 abbrev pub send5 : ℕ → Concentrator → Result Sent Fault
 send5 octet k = request false 5 (for_send (octet ∷ [])) k
-
-abbrev pub sent : Result Sent Fault → Concentrator → Concentrator
-sent (Ok s) k = s.after
-sent (Err f) k = k
-
--- after a time-out
-abbrev pub timed : Result Timed Fault → Concentrator → Concentrator
-timed (Ok (again s)) k = s.after
-timed (Ok (doubted e)) k = e.after
-timed (Err f) k = k
 
 -- after so many time-outs
 abbrev pub silence : List (Unit {0}) → Concentrator → Concentrator
 silence [] k = k
-silence (u ∷ us) k = silence us (timed (time_out false k) k)
+silence (u ∷ us) k = silence us (timed_after (time_out false k) k)
