@@ -1,13 +1,12 @@
 -- A run without mishaps, computed, over every format that keeps its laws.
 use Rattle.std.proofs.Common.{◌≡◌, ℕ, zero, suc, ◌<◌, Bool, true, false, ◌&&◌, ltb, List, [], ◌∷◌, length, get_or, take, Some, None, Ok, Option, refl, ap, ◌∙◌, subst, arith}
-use lib.Bits.{bit_xor, xor_self}
-use lib.Count.{ones, ones_in}
 use lib.Seq.{take-length}
 use Rattle.account.proofs.Valid.{Sayable, ValidWorld, burst_valid, new_valid, valid_run}
 use Rattle.account.specs.Books.{Station, found}
 use Rattle.account.specs.Line as line
 use Rattle.account.specs.Line.{Burst, HeardAs, OnWay, Run, World, begin, leaves, new_world, on_way, then}
 use Rattle.account.specs.Sample.{Comes, ComesThrough, one_reader}
+use Rattle.frame.proofs.Distance.{none_inverted}
 use Rattle.frame.specs.Damage.{distance}
 use Rattle.frame.specs.Laws.{SizeLaw, VerdictLaw}
 use Rattle.frame.specs.declared.Format.{Ghosts}
@@ -68,11 +67,6 @@ its_way e k w h =
     let n : k < length w.bursts = grind (arith, nat_tests) in
     let o : on_way e (burst_at k w) ≡ true = grind (arith, nat_tests) in
     (n, get_d_any w.bursts k (burst_at k w) no_burst n, o)
-
-none_inverted : (l : List ℕ) → distance l l ≡ 0
-unfolding ones ones_in
-none_inverted [] = refl
-none_inverted (x ∷ l) = let e : ones (bit_xor x x) ≡ 0 = ap ones (xor_self x) in omega (arith, e, none_inverted l)
 
 module _ {X : Type 0} (F : Ghosts X) (size : SizeLaw F.WIDTH F.LONGEST F.frame) (exact : VerdictLaw F.frame F.verdict) where
   -- a burst as it was sent is heard, and read as what it says

@@ -1,6 +1,5 @@
 -- Bits and octets as one long number: the same for both, and in how many bits two such numbers differ.
-use Rattle.std.proofs.Common.{◌≡◌, ℕ, zero, suc, ◌+◌, ◌*◌, ◌/◌, ◌%◌, ◌^◌, ◌<◌, ◌≤◌, Bool, true, false, eqb, List, [], ◌∷◌, ◌++◌, map, length, sym, refl, ap, ◌∙◌, ap₂, append_assoc, add-zero, pow-suc, arith}
-use lib.Arith.{half_le}
+use Rattle.std.proofs.Common.{◌≡◌, ℕ, zero, suc, ◌+◌, ◌*◌, ◌/◌, ◌%◌, ◌^◌, ◌<◌, Bool, true, false, eqb, List, [], ◌∷◌, ◌++◌, map, length, sym, refl, ap, ◌∙◌, ap₂, append_assoc, add-zero, pow-suc, arith}
 use lib.Bits.{bit_xor}
 use lib.Count.{ones, ones_step, ones_cat, ones_in}
 use Rattle.std.specs.Int.Digits.{number_from_digits_after, AllBelowBase}
@@ -13,9 +12,6 @@ abbrev pub value : ℕ → List Bool → ℕ
 value n p = number_from_digits_after 2 n (map digit p)
 
 -- ---- the bits of octets
-
-length_octet : (x : ℕ) → length (octet_bits x) ≡ 8
-length_octet x = refl
 
 pub length_bits : (a : List ℕ) → length (bits a) ≡ 8 * length a
 unfolding bits
@@ -87,16 +83,6 @@ unfolding weight
 ones_value n [] = sym (add-zero (ones n))
 ones_value n (b ∷ p) =
     omega (arith, ones_value (n * 2 + digit b) p, ones_cat 1 n (digit b) (digit_lt b), ones_digit b)
-
-none_set : (d n : ℕ) → n ≤ d → ones n ≡ 0 → n ≡ 0
-none_set zero n h e = omega arith
-none_set (suc d) n h e =
-    let s : ones n ≡ n % 2 + ones (n / 2) = ones_step n in
-    let half : n / 2 ≡ 0 = none_set d (n / 2) (half_le h) (omega arith) in
-    omega arith
-
-pub ones_none : (n : ℕ) → ones n ≡ 0 → n ≡ 0
-ones_none n e = none_set n n (omega arith) e
 
 -- a count of bits for a numeral, which computes
 pub ones_by : (k n : ℕ) → n < 2 ^ k → ones n ≡ ones_in k n

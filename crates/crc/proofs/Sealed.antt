@@ -6,11 +6,12 @@ use lib.Pow.{split}
 use Rattle.std.specs.Int.Digits.{AllBelowBase, number_from_digits}
 use Rattle.std.proofs.ByRecursion.{All-append}
 use Rattle.std.proofs.lemmas.Bool.{and_parts, ltb-true}
+use Rattle.std.proofs.lemmas.Nat.{zero_from_ones}
 use Rattle.crc.specs.Check.{bring_down, remainder, octet_bits, bits, check, sealed}
 use Rattle.crc.specs.Distance.{Apart, Least, differing}
 use Rattle.crc.proofs.Linear.{xor_cancel, sums, length_sums, zeros, shift, remainder_lt, remainder-++, remainder_xor, shift_xor, shift_octet, octet}
 use Rattle.crc.proofs.Multiples.{no_multiple}
-use Rattle.crc.proofs.Numbers.{weight, length_bits, bits-++, value_bits, value_xor, ones_value, ones_none, ones_by, same_octets}
+use Rattle.crc.proofs.Numbers.{weight, length_bits, bits-++, value_bits, value_xor, ones_value, ones_by, same_octets}
 
 -- ---- a block as it is sent
 
@@ -110,7 +111,7 @@ apart_five a b ha hb l k h = by_count (differing (sealed a) (sealed b)) refl
         sealed_same a b l
         (same_octets 0 0 (sealed a) (sealed b) (under_sealed a ha) (under_sealed b hb)
         (length_sealed a ∙ ap (λ (n : ℕ). n + 2) l ∙ sym (length_sealed b))
-        (xor_cancel (number_from_digits 256 (sealed a)) (number_from_digits 256 (sealed b)) (ones_none _ e))).1
+        (xor_cancel (number_from_digits 256 (sealed a)) (number_from_digits 256 (sealed b)) (zero_from_ones _ e))).1
     by_count (suc n) e =
         let w : weight (difference a b) ≡ differing (sealed a) (sealed b) = difference_weight a b ha hb l in
         absurd (no_multiple (difference a b) (omega (arith, difference_length a b l)) (omega arith) (omega arith) (difference_leaves a b l))

@@ -1,7 +1,7 @@
 -- One bit of a number, and how many bits an exclusive or has.
 use Rattle.std.proofs.Common.{◌≡◌, ℕ, zero, suc, ◌+◌, ◌-◌, ◌*◌, ◌/◌, ◌%◌, ◌^◌, ◌<◌, ◌≤◌, Bool, true, false, ◌||◌, eqb, sym, refl, ap, ◌∙◌, ap₂, ⊎_elim, zero-add, arith}
 use lib.Arith.{half_le}
-use lib.Bits.{bit_xor, xor_assoc, xor_comm, xor_mod, xor_self, xor_shr}
+use lib.Bits.{bit_xor, xor_assoc, xor_comm, xor_mod, xor_shr}
 use lib.Count.{ones, ones_cat, ones-le, ones-ones, ones_step}
 use Rattle.frame.specs.Controls.{digit}
 use Rattle.std.proofs.lemmas.Nat.{pow-add, pow_below, pow_pos, shl-shr, shr_below}
@@ -83,6 +83,3 @@ xor_ones_under (suc d) a b ha hb =
 -- an exclusive or has no more bits than its parts together
 pub xor_ones : (a b : ℕ) → ones (bit_xor a b) ≤ ones a + ones b
 xor_ones a b = xor_ones_under (a + b) a b (omega arith) (omega arith)
-
-pub self_ones : (x : ℕ) → ones (bit_xor x x) ≡ 0
-self_ones x = ap ones (xor_self x) ∙ no_ones

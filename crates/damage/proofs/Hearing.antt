@@ -2,12 +2,13 @@
 use Rattle.std.proofs.Common.{◌≡◌, ℕ, zero, suc, ◌+◌, ◌^◌, ◌<◌, ◌≤◌, Bool, true, false, cond, not, leb, List, [], ◌∷◌, length, get_or, take, set, Some, None, Ok, Option, Result, Vec, sym, refl, ap, ◌∙◌, subst, arith}
 use lib.Bits.{bit_xor, xor_assoc, xor_lt}
 use lib.Count.{ones}
-use Rattle.damage.proofs.Digits.{one_of_pow, self_ones, xor_ones}
+use Rattle.damage.proofs.Digits.{one_of_pow, xor_ones}
 use Rattle.damage.proofs.Flips.{length_flipped, within_parts}
 use Rattle.damage.specs.Damages.{all_within, flipped, heard, hearing, inverted, is_within, only_if, rest, shortens, twice}
 use Rattle.damage.specs.declared.DamageError.{DamageError}
 use Rattle.damage.specs.declared.DamageError.TheVariants.{NothingCut, FlipOutside, FlipTwice, BeyondGuard}
 use Rattle.damage.specs.declared.Flip.{Flip}
+use Rattle.frame.proofs.Distance.{none_inverted}
 use Rattle.frame.specs.Damage.{Damaged, Fits, distance}
 use Rattle.std.proofs.lemmas.Nat.{pow_below}
 use Rattle.std.proofs.ByRecursion.{All-get_or, All-set, All-take}
@@ -16,10 +17,6 @@ use Rattle.std.proofs.lemmas.Bool.{and_parts, le-leb, leb-true}
 use Rattle.std.specs.Option.{ok_or, option_map}
 use Rattle.std.specs.Vec.{with_items}
 use Rattle.std.specs.declared.alloc.Global.{Global}
-
-no_distance : (xs : List ℕ) → distance xs xs ≡ 0
-no_distance [] = refl
-no_distance (x ∷ xs) = let here = self_ones x in let rest = no_distance xs in omega arith
 
 -- one bit more or less
 near : (xs ys : List ℕ) (p c : ℕ) → distance xs (set ys p (bit_xor (get_or ys p 0) (2 ^ c))) ≤ distance xs ys + 1
@@ -96,7 +93,7 @@ within_guard width guard cut fs ss b h fit =
     let few = leb-true (length fs) guard four.0 in
     let D : List ℕ → Type 0 = λ s. Damaged width guard ss s in
     let is : flipped fs r ≡ b = ok_same (flipped fs r) b four.1 in
-    let none = no_distance r in
+    let none = none_inverted r in
     let most = far fs r r in
     let same = ap (λ xs. distance xs (flipped fs r)) (rest_take cut ss) in
     subst D is (length r, rest_short cut ss, length_flipped fs r, still_fits width fs r two.0 (rest_fits width cut ss fit), omega arith)

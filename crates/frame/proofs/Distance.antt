@@ -1,23 +1,19 @@
 -- The distance of two bursts: of their parts, and where it is 0.
-use Rattle.std.proofs.Common.{◌≡◌, ℕ, zero, suc, ◌+◌, ◌/◌, ◌%◌, ◌≤◌, List, [], ◌∷◌, ◌++◌, length, sym, refl, ap, ◌∙◌, ap₂, arith}
-use lib.Arith.{half_le}
+use Rattle.std.proofs.Common.{◌≡◌, ℕ, ◌+◌, ◌≤◌, List, [], ◌∷◌, ◌++◌, length, sym, refl, ap, ◌∙◌, ap₂, arith}
 use lib.Bits.{bit_xor, xor_assoc, xor_self, xor_zero_r, xor_zero_l}
-use lib.Count.{ones, ones_step}
+use lib.Count.{ones, ones_in}
 use Rattle.frame.specs.Damage.{distance}
-
-ones_none : (d n : ℕ) → n ≤ d → ones n ≡ 0 → n ≡ 0
-ones_none zero n h e = omega arith
-ones_none (suc d) n h e =
-    let s = ones_step n in
-    let low : n % 2 ≡ 0 = omega (arith, s) in
-    let rest : ones (n / 2) ≡ 0 = omega (arith, s) in
-    let half : n / 2 ≡ 0 = ones_none d (n / 2) (half_le h) rest in
-    omega arith
+use Rattle.std.proofs.lemmas.Nat.{zero_from_ones}
 
 pub same_symbol : (x y : ℕ) → ones (bit_xor x y) ≡ 0 → x ≡ y
 same_symbol x y e =
-    let z : bit_xor x y ≡ 0 = ones_none (bit_xor x y) (bit_xor x y) (omega arith) e in
+    let z : bit_xor x y ≡ 0 = zero_from_ones (bit_xor x y) e in
     sym (xor_assoc x y y ∙ ap (bit_xor x) (xor_self y) ∙ xor_zero_r x) ∙ ap (λ n. bit_xor n y) z ∙ xor_zero_l y
+
+pub none_inverted : (xs : List ℕ) → distance xs xs ≡ 0
+unfolding ones ones_in
+none_inverted [] = refl
+none_inverted (x ∷ xs) = let e : ones (bit_xor x x) ≡ 0 = ap ones (xor_self x) in omega (arith, e, none_inverted xs)
 
 pub same_at_zero : (xs ys : List ℕ) → length xs ≡ length ys → distance xs ys ≤ 0 → xs ≡ ys
 same_at_zero [] [] l d = refl
