@@ -8,7 +8,7 @@ use Rattle.account.proofs.Hearing.{after, count_gone, unset_of}
 use Rattle.account.proofs.Invariant.{Inv, collect_view, inv_run, offer_view, same_telegram, turn_address}
 use Rattle.account.proofs.Pair.{Counted, Live, Mode, asking, fresh, gone, open_for, resetting, taken, view}
 use Rattle.account.proofs.State.{Known, Stands, State, heard_none, heard_request, link_changed, telegram_of}
-use Rattle.account.proofs.Stations.{address_of, all_found, all_map, each_changed, each_found, each_same, each_then, own_found, some_same, turned_round}
+use Rattle.account.proofs.Stations.{address_of, all_found, all_map, each_changed, each_found, each_same, each_then, own_found, turned_round}
 use Rattle.account.proofs.Tied.{marks_offers}
 use Rattle.account.proofs.Valid.{SaysWell, ValidWorld, burst_valid, valid_run}
 use Rattle.account.specs.Account.{NothingMoved, Unset, offers_handed}
@@ -37,6 +37,7 @@ use Rattle.rules.specs.declared.records.Report.{Report}
 use Rattle.rules.specs.declared.records.Request.{Request}
 use Rattle.rules.specs.declared.records.Request.TheVariants.{Reset, Status, Send, Poll}
 use Rattle.rules.specs.declared.telegram.Telegram.{Telegram}
+use Rattle.std.proofs.lemmas.Option.{same_Some}
 use Rattle.std.specs.List.{AllZip, AllByRecursion}
 
 abbrev Off : Link → Station → Type 0
@@ -255,7 +256,7 @@ module _ (w : World) (i : Inv w) where
   steps_answered n a k b s e c (Ok y) t o =
       each_changed (On w.concentrator.links w.concentrator.links) (λ q. found (address_of q) w.stations ≡ Some q) (address_of s) (λ q. turned n y s) w.stations
       (λ q z p. subst (λ u. On w.concentrator.links w.concentrator.links u (turned n y s))
-      (some_same (sym e ∙ ap (λ b. found b w.stations) (sym c ∙ sym (eqb-true (address_of q) (address_of s) z)) ∙ p))
+      (same_Some _ _ (sym e ∙ ap (λ b. found b w.stations) (sym c ∙ sym (eqb-true (address_of q) (address_of s) z)) ∙ p))
       (record { same = turn_address s.reader (Ok y) t; on = o })) (λ q z p. on_same w.concentrator.links q) (own_found w.stations i.apart)
 
 module _ {X : Type 0} (F : Ghosts X) (exact : VerdictLaw F.frame F.verdict) (guarded : GuardLaw F.WIDTH F.GUARD F.frame) where

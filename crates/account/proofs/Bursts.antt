@@ -40,7 +40,7 @@ all_true zero e h = let w : ⊥ = omega arith in absurd w
 all_true (suc n) zero h = refl
 all_true (suc n) (suc e) h = all_true n e (omega arith)
 
-all_false : (n e : ℕ) → get_or (replicate n false) e false ≡ false
+pub all_false : (n e : ℕ) → get_or (replicate n false) e false ≡ false
 all_false zero e = refl
 all_false (suc n) zero = refl
 all_false (suc n) (suc e) = all_false n e

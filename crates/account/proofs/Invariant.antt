@@ -18,7 +18,7 @@ use Rattle.frame.specs.Contents.{Meaning}
 use Rattle.frame.specs.Laws.{GuardLaw, VerdictLaw}
 use Rattle.frame.specs.declared.Format.{Ghosts}
 use Rattle.rules.specs.Concentrator as co
-use Rattle.rules.specs.Concentrator.{Concentrator, first_exchange, link_asked, once_more, ready, request_telegram, verdict}
+use Rattle.rules.specs.Concentrator.{first_exchange, link_asked, once_more, ready, request_telegram, verdict}
 use Rattle.rules.specs.Links.{change_link, link_at, unset_link}
 use Rattle.rules.specs.Reader as rd
 use Rattle.rules.specs.Reader.{Turn, hear_telegram}
@@ -35,9 +35,6 @@ use Rattle.rules.specs.declared.records.Report.{Report}
 use Rattle.rules.specs.declared.records.Request.{Request}
 use Rattle.rules.specs.declared.telegram.Telegram.{Telegram}
 use Rattle.std.specs.List.{AllByRecursion}
-
-abbrev StateOf : Concentrator → List Burst → List Station → Type 0
-StateOf k bursts stations = State k.links k.exchange bursts stations
 
 pub record Inv (w : World) : Type 0 where
   pub state : State w.concentrator.links w.concentrator.exchange w.bursts w.stations

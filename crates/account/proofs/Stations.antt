@@ -1,7 +1,8 @@
 -- Lists of readers: what holds of each, found by address, after a change of one.
-use Rattle.std.proofs.Common.{◌≡◌, ℕ, Bool, true, false, cond, eqb, List, [], ◌∷◌, ◌++◌, Some, None, sym, refl, ap, ◌∙◌, subst, arith, eq-eqb, eqb-true}
+use Rattle.std.proofs.Common.{◌≡◌, ℕ, Bool, true, false, cond, eqb, List, [], ◌∷◌, ◌++◌, Some, sym, refl, ap, ◌∙◌, subst, arith, eq-eqb, eqb-true}
 use Rattle.account.specs.Books.{Station, found, change, newest_send, newest_sent}
 use Rattle.std.proofs.lemmas.Bool.Decides.{nat_tests}
+use Rattle.std.proofs.lemmas.Option.{none-some, same_Some}
 use Rattle.std.specs.List.{AllZip, AllByRecursion}
 
 abbrev pub address_of : Station → ℕ
@@ -40,19 +41,13 @@ all_changed P Q a f (s ∷ l) g h p = (go (eqb (address_of s) a) refl, all_chang
     go true e = g s e p.0
     go false e = h s e p.0
 
-pub none_some : {A X : Type 0} {x : X} → None ≡ Some x → A
-none_some e = let z : ◌≡◌ {A = ℕ} 0 1 = cc in let w : ⊥ = omega arith in absurd w
-
-pub some_same : {X : Type 0} {x y : X} → Some x ≡ Some y → x ≡ y
-some_same e = cc
-
 -- the reader that is found is one of them, and has the address
 pub all_found : (P : Station → Type 0) (a : ℕ) (l : List Station) (s : Station) → found a l ≡ Some s → AllByRecursion P l → P s × (address_of s ≡ a)
-all_found P a [] s e p = none_some e
+all_found P a [] s e p = absurd (none-some _ e)
 all_found P a (t ∷ l) s e p = go (eqb (address_of t) a) refl e (λ r. all_found P a l s r p.1)
   where
     go : (z : Bool) → eqb (address_of t) a ≡ z → cond z (Some t) (found a l) ≡ Some s → (found a l ≡ Some s → P s × (address_of s ≡ a)) → P s × (address_of s ≡ a)
-    go true q r k = subst (λ x. P x × (address_of x ≡ a)) (some_same r) (p.0, eqb-true (address_of t) a q)
+    go true q r k = subst (λ x. P x × (address_of x ≡ a)) (same_Some _ _ r) (p.0, eqb-true (address_of t) a q)
     go false q r k = k r
 
 -- no two of them share an address
@@ -96,14 +91,14 @@ own_number a l d =
 module _ (R : Station → Station → Type 0) where
   pub each_found : ((s t : Station) → R s t → address_of t ≡ address_of s) → (a : ℕ) (k l : List Station) (s t : Station) → AllZip R k l
       → found a k ≡ Some s → found a l ≡ Some t → R s t
-  each_found h a [] [] s t p d e = none_some d
+  each_found h a [] [] s t p d e = absurd (none-some _ d)
   each_found h a [] (y ∷ l) s t p d e = absurd p
   each_found h a (x ∷ k) [] s t p d e = absurd p
   each_found h a (x ∷ k) (y ∷ l) s t p d e =
       go (eqb (address_of x) a) d (subst (λ z. cond z (Some y) (found a l) ≡ Some t) (ap (λ b. eqb b a) (h x y p.0)) e) (λ d e. each_found h a k l s t p.1 d e)
     where
       go : (z : Bool) → cond z (Some x) (found a k) ≡ Some s → cond z (Some y) (found a l) ≡ Some t → (found a k ≡ Some s → found a l ≡ Some t → R s t) → R s t
-      go true d e r = subst (λ u. R u t) (some_same d) (subst (R x) (some_same e) p.0)
+      go true d e r = subst (λ u. R u t) (same_Some _ _ d) (subst (R x) (same_Some _ _ e) p.0)
       go false d e r = r d e
 
   pub each_same : ((s : Station) → R s s) → (l : List Station) → AllZip R l l

@@ -1,5 +1,5 @@
 -- Lists, place by place: one list, and two whose elements are in pairs.
-use Rattle.std.proofs.Common.{◌≡◌, ℕ, zero, suc, ◌<◌, false, List, [], ◌∷◌, ◌++◌, length, get_or, set, replicate, Some, refl, ap, arith}
+use Rattle.std.proofs.Common.{◌≡◌, ℕ, zero, suc, ◌<◌, List, [], ◌∷◌, ◌++◌, length, set, Some, refl, ap, arith}
 use Rattle.readers.specs.Pairs.{Paired}
 use Rattle.std.specs.List.{slice_get}
 
@@ -27,11 +27,6 @@ nth_set_other (y ∷ xs) x zero zero n = absurd (n refl)
 nth_set_other (y ∷ xs) x zero (suc j) n = refl
 nth_set_other (y ∷ xs) x (suc k) zero n = refl
 nth_set_other (y ∷ xs) x (suc k) (suc j) n = nth_set_other xs x k j (λ e. n (ap suc e))
-
-pub all_false : (n i : ℕ) → get_or (replicate n false) i false ≡ false
-all_false zero i = refl
-all_false (suc n) zero = refl
-all_false (suc n) (suc i) = all_false n i
 
 -- ## two lists in pairs
 

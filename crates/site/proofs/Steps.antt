@@ -61,10 +61,10 @@ filled n b rest h = ap (λ k. take k (b ++ rest)) (sym h) ∙ take-append_seam b
 
 -- ## the station of a request
 
-err_ok : {A X Y : Type 0} {f : Y} {x : X} → Err f ≡ Ok x → A
+pub err_ok : {A X Y : Type 0} {f : Y} {x : X} → Err f ≡ Ok x → A
 err_ok e = let z : ◌≡◌ {A = ℕ} 0 1 = cc in let w : ⊥ = omega arith in absurd w
 
-ok_same : {X Y : Type 0} {x y : X} → ◌≡◌ {A = Result X Y} (Ok x) (Ok y) → x ≡ y
+pub ok_same : {X Y : Type 0} {x y : X} → ◌≡◌ {A = Result X Y} (Ok x) (Ok y) → x ≡ y
 ok_same e = cc
 
 opened_at : (o : Option Exchange) (y z : Bool) (a : ℕ) (v : Request) (k : co.Concentrator) (x : co.Sent) → co.opened o y z a v k ≡ Ok x → (x.exchange.station ≡ a) × (x.after.exchange ≡ Some x.exchange)

@@ -25,7 +25,7 @@ use Rattle.rules.specs.Telegrams.{carried, telegram_read}
 use Rattle.rules.specs.declared.message.Message.{Message}
 use Rattle.site.proofs.Addresses.{addresses_changed, lawful_spaced, turn_address}
 use Rattle.site.proofs.Events.{is_heard, reader_answers, reader_refused, sent_is}
-use Rattle.site.proofs.Steps.{filled, reader_end}
+use Rattle.site.proofs.Steps.{err_ok, filled, ok_same, reader_end}
 use Rattle.site.proofs.Ways.{length_changed}
 use Rattle.site.specs.Shown.{Memory, Stands, burst_of}
 use Rattle.site.specs.Sites.{Answered, Leads, answered_as, at_end, marked_by, next_burst, number_of, symbols_of, taken_off, undamaged, with_line, with_readers}
@@ -40,12 +40,6 @@ use Rattle.station.specs.declared.Refusal.{Refusal}
 use Rattle.station.specs.declared.Refusal.TheVariants as refusal
 use Rattle.std.specs.Option.{option_map}
 use Rattle.std.proofs.lemmas.Option.{none-some, same_Some}
-
-err_ok : {A X Y : Type 0} {f : Y} {x : X} → Err f ≡ Ok x → A
-err_ok e = let z : ◌≡◌ {A = ℕ} 0 1 = cc in let w : ⊥ = omega arith in absurd w
-
-ok_same : {X Y : Type 0} {x y : X} → ◌≡◌ {A = Result X Y} (Ok x) (Ok y) → x ≡ y
-ok_same e = cc
 
 fault_same : {X : Type 0} {f g : Fault} → ◌≡◌ {A = Result X Refusal} (Err (refusal.Fault f)) (Err (refusal.Fault g)) → f ≡ g
 fault_same e = cc

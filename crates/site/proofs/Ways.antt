@@ -1,12 +1,13 @@
 -- The bursts in memory and those of the line: that they stay the same after each thing that befalls them.
 use Rattle.std.proofs.Common.{◌≡◌, ℕ, zero, suc, ◌+◌, ◌-◌, ◌<◌, ◌≤◌, true, false, cond, ◌&&◌, eqb, ltb, List, [], ◌∷◌, ◌++◌, map, length, get_or, set, replicate, Some, None, Option, sym, refl, ap, ◌∙◌, subst, ap₂, ⊎_elim, arith}
+use Rattle.account.proofs.Bursts.{all_false}
 use Rattle.account.specs.Line.{Burst, NoneTo, gone, lost_everywhere}
 use Rattle.frame.specs.declared.Format.{Ghosts}
 use Rattle.line.proofs.Flags.{cleared}
 use Rattle.line.proofs.Ways.{taken}
 use Rattle.line.specs.Ways.{Flight, Sent, Silent, View, arrived, changed_at, landed, launched, marked, new_line, on_way, quieted}
 use Rattle.rules.specs.declared.telegram.Telegram.{Telegram}
-use Rattle.readers.proofs.Places.{all_false, nth_front, nth_last, nth_set_other, nth_set_same}
+use Rattle.readers.proofs.Places.{nth_front, nth_last, nth_set_other, nth_set_same}
 use Rattle.site.specs.Shown.{Carries, flies, flies_to, sent_of}
 use Rattle.std.proofs.lemmas.List.{get_or-replicate, get_or-set_other, length-map, length_push, map_push}
 use Rattle.std.proofs.lemmas.Option.{slice_get-map, slice_get_past, slice_get_read}
