@@ -22,9 +22,10 @@ use station::Refusal;
 
 impl<F: Format> Site<F> {
     // Burst k was heard at an end.
-    fn take_off(&mut self, end: usize, k: usize)
+    pub(crate) fn take_off(&mut self, end: usize, k: usize)
         ensures moved { seen self.new ≡ taken_off end k (seen self.old) }
         ensures room { room self.new.line ≡ room self.old.line }
+        ensures readers { self.new.readers ≡ self.old.readers }
     {
         // It was on the way.
         let _ = self.line.arrive(end, k);
@@ -44,27 +45,22 @@ impl<F: Format> Site<F> {
         ensures { Answered address end k heard buffer.items (seen self.old) (seen self.new) result }
     {
         // A refused burst was heard all the same; for want of memory it was not.
-        match heard {
-            Ok(heard) => {
-                self.take_off(end, k);
-                let number = self.readers.newest_hand_out(address);
-                let burst = self.launch(buffer, heard.count, number);
-                Ok(Answer {
-                    burst,
-                    taken: heard.taken,
-                    mark: heard.mark,
-                })
-            }
-            Err(Refusal::Fault(fault)) => {
-                self.take_off(end, k);
-                Err(Trouble::Refused(fault))
-            }
-            Err(Refusal::Memory) => Err(Trouble::OutOfMemory),
+        if let Err(Refusal::Memory) = heard {
+            return Err(Trouble::OutOfMemory);
         }
+        self.take_off(end, k);
+        let heard = heard?;
+        let number = self.readers.newest_hand_out(address);
+        let burst = self.launch(buffer, heard.count, number);
+        Ok(Answer {
+            burst,
+            taken: heard.taken,
+            mark: heard.mark,
+        })
     }
 
     // A reader hears burst k, and answers it with a buffer of so many places; the message that was out, if it is
-    // marked, then stands in the caller's record: 20, read's faults, 8, 9, 10, 11, 12.
+    // marked, then stands in the caller's record, by section 9 of docs/RULES.md: 20, read's faults, 8, 9, 10, 11, 12.
     pub fn hear_at_reader(
         &mut self,
         address: u8,

@@ -25,7 +25,8 @@ pub(crate) fn are_octets(octets: &[u8])
 {}
 
 impl<F: Format> Site<F> {
-    // One message more of a reader for the concentrator: 15, 16, 21.
+    // One message more of a reader for the concentrator. The class as a number, which the reader refuses with 16 if it is
+    // wrong: 15, 16, 21.
     pub fn offer(&mut self, address: u8, class: u8, octets: &[u8]) -> Result<(), Trouble>
         ensures answer { result ≡ (if no_memory result then Err trouble.OutOfMemory else trouble_of (option_map (λ x. told (offer_answer (offer class octets.now x.reader))) (at address (seen self.old).readers))) }
         ensures steps { Leads F.Format (is_made result) (seen self.old) (seen self.new) (λ w. offers address class octets.now) }
@@ -59,7 +60,8 @@ impl<F: Format> Site<F> {
         Ok(collected?)
     }
 
-    // A reader starts again; the message out, which is doubtful then, stands in the caller's record.
+    // A reader starts again; the message out, which is doubtful then, stands in the caller's record, by section 9 of
+    // docs/RULES.md.
     pub fn restart(&mut self, address: u8, marked: &mut Message) -> Result<Option<Mark>, Trouble>
         ensures answer { result ≡ always (option_map (λ x. mark_of Doubtful x.reader.out) (at address (seen self.old).readers)) }
         ensures kept { MatchOption (at address (seen self.old).readers) (marked.new ≡ marked.old) (λ x. marked.new ≡ record_after (mark_of Doubtful x.reader.out) x.reader.out marked.old) }

@@ -39,7 +39,7 @@ impl<F: Format> Site<F> {
         self.line.number(k).unwrap_or(0)
     }
 
-    // Room in memory for the end of an exchange.
+    // Room in memory for the end of an exchange; no value stands for it, as for that of `prepare`.
     fn make_ready(&mut self, exchange: Option<Exchange>) -> Result<(), AllocError>
         ensures same { seen self.new ≡ seen self.old }
         ensures ready { OnOk result (ReadyFor exchange self.new.readers) }
@@ -58,9 +58,7 @@ impl<F: Format> Site<F> {
         ensures { Hears exchange k outcome (seen self.old) (seen self.new) result }
     {
         let number = self.number_of(k);
-        // It was on the way.
-        let _ = self.line.arrive(0, k);
-        self.started = true;
+        self.take_off(0, k);
         let outcome = outcome?;
         self.end(exchange, number, outcome);
         Ok(outcome)

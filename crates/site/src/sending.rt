@@ -18,7 +18,8 @@ use rules::records::{Exchange, Outcome, UserRequest};
 use std::alloc::AllocError;
 
 impl<F: Format> Site<F> {
-    // Memory for a burst, for the books of a station, and a buffer of so many places: what a call needs, before it.
+    // Memory for a burst, for the books of a station, and a buffer of so many places: what a call needs, before it. No
+    // value stands for that room, since it would keep the line and the readers borrowed.
     pub(crate) fn prepare(&mut self, station: u8, places: usize) -> Result<Vec<u16>, AllocError>
         ensures same { seen self.new ≡ seen self.old }
         ensures buffer { IfOk result (λ b. length b.items ≡ places) }
@@ -143,7 +144,7 @@ fn are_octets_asked(asked: UserRequest<'_>)
     }
 }
 
-// The station of an exchange; no reader is at 0.
+// The station of an exchange, 0 for none: no reader is there, as the account counts.
 pub(crate) fn station_of(exchange: Option<Exchange>) -> u8
     ensures { result ≡ station_of exchange }
 {
