@@ -2,7 +2,7 @@
 ghost use Rattle.concentrator.specs.View.{view};
 ghost use Rattle.rules.specs.Concentrator.{closing, hear, time_out};
 ghost use Rattle.rules.specs.Exchanges.{heard_after, heard_answer, timed_after, timed_answer, timed_buffer};
-ghost use Rattle.rules.specs.Room.{DoubtAppends, HearAppends, flags_read};
+ghost use Rattle.rules.specs.Room.{DoubtAppends, HearAppends, Roomy, flags_read};
 ghost use Rattle.rules.specs.Telegrams.{telegram_read};
 ghost use Rattle.std.specs.Prelude.{◌≡◌, length, OnErr, nat_lt};
 
@@ -15,9 +15,10 @@ use rules::records::{Arrival, Ending, Exchange, Flags, Outcome, Report};
 use rules::telegram::{read_telegram, write_telegram};
 
 impl<P: Slots<Item = Arrival>, Q: Slots<Item = Report>, F: Format> Concentrator<P, Q, F> {
-    // Ends the open exchange, which has its slots: neither put is refused, as `appended` of the two callers says.
+    // Ends the exchange. Its report finds a free slot, as does the arrival that it brought: both were free when it was
+    // opened, and only it fills them. So neither put is refused, as `appended` of the two callers says.
     fn close(&mut self, exchange: Exchange, ending: Ending, flags: Flags)
-        ensures { view self.new ≡ (closing exchange ending flags (view self.old)).after }
+        ensures { view P.Slots.items Q.Slots.items self.new ≡ (closing exchange ending flags (view P.Slots.items Q.Slots.items self.old)).after }
     {
         let station = exchange.station;
         let link = self.link(station);
@@ -39,11 +40,12 @@ impl<P: Slots<Item = Arrival>, Q: Slots<Item = Report>, F: Format> Concentrator<
     // No answer came: writes the same frame again, or ends the exchange in doubt, writes nothing and answers 0, as
     // section 10 of docs/RULES.md has it. Refused with 20, 13.
     pub fn time_out(&mut self, buffer: &mut [u16]) -> Result<usize, Fault>
-        ensures answer { result ≡ timed_answer F.frame (time_out (nat_lt (length buffer.old) F.LONGEST) (view self.old)) }
-        ensures moved { view self.new ≡ timed_after (time_out (nat_lt (length buffer.old) F.LONGEST) (view self.old)) (view self.old) }
-        ensures written { buffer.new ≡ timed_buffer F.frame (time_out (nat_lt (length buffer.old) F.LONGEST) (view self.old)) buffer.old }
+        ensures answer { result ≡ timed_answer F.frame (time_out (nat_lt (length buffer.old) F.LONGEST) (view P.Slots.items Q.Slots.items self.old)) }
+        ensures moved { view P.Slots.items Q.Slots.items self.new ≡ timed_after (time_out (nat_lt (length buffer.old) F.LONGEST) (view P.Slots.items Q.Slots.items self.old)) (view P.Slots.items Q.Slots.items self.old) }
+        ensures written { buffer.new ≡ timed_buffer F.frame (time_out (nat_lt (length buffer.old) F.LONGEST) (view P.Slots.items Q.Slots.items self.old)) buffer.old }
         ensures refused { OnErr result (self.new ≡ self.old) }
-        ensures appended { DoubtAppends (time_out (nat_lt (length buffer.old) F.LONGEST) (view self.old)) (view self.old) (view self.new) }
+        ensures kept { Roomy (view P.Slots.items Q.Slots.items self.old) → Roomy (view P.Slots.items Q.Slots.items self.new) }
+        ensures appended { Roomy (view P.Slots.items Q.Slots.items self.old) → DoubtAppends (time_out (nat_lt (length buffer.old) F.LONGEST) (view P.Slots.items Q.Slots.items self.old)) (view P.Slots.items Q.Slots.items self.old) (view P.Slots.items Q.Slots.items self.new) }
     {
         check_buffer(buffer, F::LONGEST)?;
         let mut exchange = self.exchange.ok_or(Fault::of(Cause::NoExchange))?;
@@ -59,10 +61,11 @@ impl<P: Slots<Item = Arrival>, Q: Slots<Item = Report>, F: Format> Concentrator<
 
     // Hears a burst, and ends the exchange if it is an answer to it. Refused with the faults of reading, 13, 8, 9, 10.
     pub fn hear(&mut self, burst: &[u16]) -> Result<Outcome, Fault>
-        ensures answer { result ≡ heard_answer (hear (telegram_read (F.verdict burst.now)) (view self.old)) }
-        ensures moved { view self.new ≡ heard_after (hear (telegram_read (F.verdict burst.now)) (view self.old)) (view self.old) }
+        ensures answer { result ≡ heard_answer (hear (telegram_read (F.verdict burst.now)) (view P.Slots.items Q.Slots.items self.old)) }
+        ensures moved { view P.Slots.items Q.Slots.items self.new ≡ heard_after (hear (telegram_read (F.verdict burst.now)) (view P.Slots.items Q.Slots.items self.old)) (view P.Slots.items Q.Slots.items self.old) }
         ensures refused { OnErr result (self.new ≡ self.old) }
-        ensures appended { HearAppends (flags_read (telegram_read (F.verdict burst.now))) (hear (telegram_read (F.verdict burst.now)) (view self.old)) (view self.old) (view self.new) }
+        ensures kept { Roomy (view P.Slots.items Q.Slots.items self.old) → Roomy (view P.Slots.items Q.Slots.items self.new) }
+        ensures appended { Roomy (view P.Slots.items Q.Slots.items self.old) → HearAppends (flags_read (telegram_read (F.verdict burst.now))) (hear (telegram_read (F.verdict burst.now)) (view P.Slots.items Q.Slots.items self.old)) (view P.Slots.items Q.Slots.items self.old) (view P.Slots.items Q.Slots.items self.new) }
     {
         let telegram = read_telegram::<F>(burst)?;
         let exchange = self.exchange.ok_or(Fault::of(Cause::NoExchange))?;

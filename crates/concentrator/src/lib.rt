@@ -5,9 +5,13 @@
 mod exchanges;
 mod requests;
 
-ghost use Rattle.rules.specs.Concentrator.{concentrator_check};
-ghost use Rattle.rules.specs.Queues.{held};
+ghost use Rattle.account.specs.Account.{TwoEndsOver};
+ghost use Rattle.concentrator.specs.View.{view};
+ghost use Rattle.queue.specs.Fifo.{take_answer};
+ghost use Rattle.rules.specs.Concentrator.{arrival_fetched, concentrator_check, new_concentrator, report_fetched};
+ghost use Rattle.rules.specs.Links.{link_at};
 ghost use Rattle.rules.specs.Room.{Roomy};
+ghost use Rattle.rules.specs.Survey.{Surveyed, survey_answer};
 ghost use Rattle.std.specs.Prelude.{◌≡◌, length, MatchResult, OnErr};
 
 use account::two_ends_hold;
@@ -34,32 +38,25 @@ pub fn check(plan: ConcentratorPlan) -> Result<(), Fault>
 }
 
 // It repeats each frame so many times, holds the link to each station, the exchange that is open, and the queues of
-// what has arrived and of what is reported. An open exchange has a free slot for its report and, on a poll, one for the
-// arrival.
+// what has arrived and of what is reported. That an open exchange has its slots is a clause of each call, and no ghost
+// field: such a field would ask for the bounds of both stores wherever the type is named.
 #[derive(Drop)]
-pub struct Concentrator<P: Slots<Item = Arrival>, Q: Slots<Item = Report>, F> {
+pub struct Concentrator<P, Q, F> {
     repetitions: u8,
     links: LinkTable,
     exchange: Option<Exchange>,
     arrivals: Queue<P>,
     reports: Queue<Q>,
     format: PhantomData<F>,
-    ghost roomy: { Roomy (record { repetitions = repetitions; links = links.records; exchange = exchange; arrivals = held P.items arrivals; reports = held Q.items reports }) },
 }
 
 impl<P: Slots<Item = Arrival>, Q: Slots<Item = Report>, F: Format> Concentrator<P, Q, F> {
-    ghost use Rattle.account.specs.Account.{TwoEndsOver};
-    ghost use Rattle.concentrator.specs.View.{view};
-    ghost use Rattle.queue.specs.Fifo.{take_answer};
-    ghost use Rattle.rules.specs.Concentrator.{arrival_fetched, new_concentrator, report_fetched};
-    ghost use Rattle.rules.specs.Links.{link_at};
-    ghost use Rattle.rules.specs.Survey.{Surveyed, survey_answer};
-
     // A new concentrator over the slots, lent or its own: every link unset, no exchange open, both queues empty. On a
     // line of it and readers, all begun new, the account of the two ends then holds after every run, as each call keeps
     // to the rules.
     pub fn over(repetitions: u8, arrivals: P, reports: Q) -> Concentrator<P, Q, F>
-        ensures begun { view result ≡ new_concentrator repetitions (length (P.Slots.items arrivals)) (length (Q.Slots.items reports)) }
+        ensures begun { view P.Slots.items Q.Slots.items result ≡ new_concentrator repetitions (length (P.Slots.items arrivals)) (length (Q.Slots.items reports)) }
+        ensures roomy { Roomy (view P.Slots.items Q.Slots.items result) }
         ensures accounted { TwoEndsOver F.Format }
     {
         two_ends_hold::<F>();
@@ -75,32 +72,34 @@ impl<P: Slots<Item = Arrival>, Q: Slots<Item = Report>, F: Format> Concentrator<
 
     // The link to a station.
     pub fn link(&self, station: u8) -> Link
-        ensures { result ≡ link_at (view self.now).links station }
+        ensures { result ≡ link_at (view P.Slots.items Q.Slots.items self.now).links station }
     {
         self.links.get(station)
     }
 
     // The exchange that is open, if one is.
     pub fn exchange(&self) -> Option<Exchange>
-        ensures { result ≡ (view self.now).exchange }
+        ensures { result ≡ (view P.Slots.items Q.Slots.items self.now).exchange }
     {
         self.exchange
     }
 
     // Takes the oldest report. Refused with 22.
     pub fn fetch_report(&mut self) -> Result<Report, Fault>
-        ensures answer { result ≡ take_answer (view self.old).reports.records }
-        ensures moved { view self.new ≡ report_fetched (view self.old) }
+        ensures answer { result ≡ take_answer (view P.Slots.items Q.Slots.items self.old).reports.records }
+        ensures moved { view P.Slots.items Q.Slots.items self.new ≡ report_fetched (view P.Slots.items Q.Slots.items self.old) }
         ensures refused { OnErr result (self.new ≡ self.old) }
+        ensures kept { Roomy (view P.Slots.items Q.Slots.items self.old) → Roomy (view P.Slots.items Q.Slots.items self.new) }
     {
         self.reports.take()
     }
 
     // Takes the oldest arrival. Refused with 22.
     pub fn fetch_arrival(&mut self) -> Result<Arrival, Fault>
-        ensures answer { result ≡ take_answer (view self.old).arrivals.records }
-        ensures moved { view self.new ≡ arrival_fetched (view self.old) }
+        ensures answer { result ≡ take_answer (view P.Slots.items Q.Slots.items self.old).arrivals.records }
+        ensures moved { view P.Slots.items Q.Slots.items self.new ≡ arrival_fetched (view P.Slots.items Q.Slots.items self.old) }
         ensures refused { OnErr result (self.new ≡ self.old) }
+        ensures kept { Roomy (view P.Slots.items Q.Slots.items self.old) → Roomy (view P.Slots.items Q.Slots.items self.new) }
     {
         self.arrivals.take()
     }
@@ -108,8 +107,8 @@ impl<P: Slots<Item = Arrival>, Q: Slots<Item = Report>, F: Format> Concentrator<
     // Writes the address of every station whose link is set, each once, at the front of the buffer.
     // Refused with 20.
     pub fn survey(&self, buffer: &mut [u8]) -> Result<usize, Fault>
-        ensures answer { result ≡ survey_answer (view self.now).links (length buffer.old) }
-        ensures written { MatchResult result (λ count. Surveyed (view self.now).links buffer.old buffer.new count) (λ _. buffer.new ≡ buffer.old) }
+        ensures answer { result ≡ survey_answer (view P.Slots.items Q.Slots.items self.now).links (length buffer.old) }
+        ensures written { MatchResult result (λ count. Surveyed (view P.Slots.items Q.Slots.items self.now).links buffer.old buffer.new count) (λ _. buffer.new ≡ buffer.old) }
     {
         self.links.survey(buffer)
     }

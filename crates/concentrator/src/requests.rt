@@ -2,6 +2,7 @@
 ghost use Rattle.concentrator.specs.View.{view};
 ghost use Rattle.rules.specs.Concentrator.{asking, has_room, request as requested, request_as};
 ghost use Rattle.rules.specs.Exchanges.{sent_after, sent_answer, sent_buffer};
+ghost use Rattle.rules.specs.Room.{Roomy};
 ghost use Rattle.std.specs.Prelude.{◌≡◌, ◌≤◌, length, Ok, OnErr, nat_lt};
 
 use crate::Concentrator;
@@ -16,7 +17,7 @@ use rules::telegram::write_telegram;
 impl<P: Slots<Item = Arrival>, Q: Slots<Item = Report>, F: Format> Concentrator<P, Q, F> {
     // A free slot for the report and, on a poll, one for the arrival.
     fn has_room(&self, request: &Request) -> bool
-        ensures { result ≡ has_room request.now (view self.now) }
+        ensures { result ≡ has_room request.now (view P.Slots.items Q.Slots.items self.now) }
     {
         match *request {
             Request::Reset | Request::Status | Request::Send(_) => !self.reports.is_full(),
@@ -25,12 +26,15 @@ impl<P: Slots<Item = Arrival>, Q: Slots<Item = Report>, F: Format> Concentrator<
     }
 
     // Opens the exchange of a request and writes its frame. Refused with 17, 18, 19.
+    // Inlined, so that a request without octets is not copied with the room for them.
+    #[inline(always)]
     fn open(&mut self, station: u8, request: Request, buffer: &mut [u16]) -> Result<usize, Fault>
         requires { F.LONGEST ≤ length buffer.old }
-        ensures answer { result ≡ sent_answer F.frame (request_as (Ok request) station (view self.old)) }
-        ensures moved { view self.new ≡ sent_after (request_as (Ok request) station (view self.old)) (view self.old) }
-        ensures written { buffer.new ≡ sent_buffer F.frame (request_as (Ok request) station (view self.old)) buffer.old }
+        ensures answer { result ≡ sent_answer F.frame (request_as (Ok request) station (view P.Slots.items Q.Slots.items self.old)) }
+        ensures moved { view P.Slots.items Q.Slots.items self.new ≡ sent_after (request_as (Ok request) station (view P.Slots.items Q.Slots.items self.old)) (view P.Slots.items Q.Slots.items self.old) }
+        ensures written { buffer.new ≡ sent_buffer F.frame (request_as (Ok request) station (view P.Slots.items Q.Slots.items self.old)) buffer.old }
         ensures refused { OnErr result (self.new ≡ self.old) }
+        ensures kept { Roomy (view P.Slots.items Q.Slots.items self.old) → Roomy (view P.Slots.items Q.Slots.items self.new) }
     {
         if self.exchange.is_some() {
             return Err(Fault::of(Cause::ExchangeOpen));
@@ -62,10 +66,11 @@ impl<P: Slots<Item = Arrival>, Q: Slots<Item = Report>, F: Format> Concentrator<
         asked: UserRequest<'_>,
         buffer: &mut [u16],
     ) -> Result<usize, Fault>
-        ensures answer { result ≡ sent_answer F.frame (requested (nat_lt (length buffer.old) F.LONGEST) station (asking asked.entry) (view self.old)) }
-        ensures moved { view self.new ≡ sent_after (requested (nat_lt (length buffer.old) F.LONGEST) station (asking asked.entry) (view self.old)) (view self.old) }
-        ensures written { buffer.new ≡ sent_buffer F.frame (requested (nat_lt (length buffer.old) F.LONGEST) station (asking asked.entry) (view self.old)) buffer.old }
+        ensures answer { result ≡ sent_answer F.frame (requested (nat_lt (length buffer.old) F.LONGEST) station (asking asked.entry) (view P.Slots.items Q.Slots.items self.old)) }
+        ensures moved { view P.Slots.items Q.Slots.items self.new ≡ sent_after (requested (nat_lt (length buffer.old) F.LONGEST) station (asking asked.entry) (view P.Slots.items Q.Slots.items self.old)) (view P.Slots.items Q.Slots.items self.old) }
+        ensures written { buffer.new ≡ sent_buffer F.frame (requested (nat_lt (length buffer.old) F.LONGEST) station (asking asked.entry) (view P.Slots.items Q.Slots.items self.old)) buffer.old }
         ensures refused { OnErr result (self.new ≡ self.old) }
+        ensures kept { Roomy (view P.Slots.items Q.Slots.items self.old) → Roomy (view P.Slots.items Q.Slots.items self.new) }
     {
         check_buffer(buffer, F::LONGEST)?;
         check_station(station)?;

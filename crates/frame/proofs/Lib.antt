@@ -1,3 +1,4 @@
+pub mod Buffers
 pub mod Bursts
 pub mod Distance
 pub mod Parity

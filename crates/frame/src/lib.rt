@@ -38,16 +38,19 @@ pub enum Content {
     },
 }
 
-// The symbols of a format: which numbers that a receiver hands over are whole, and which octet each stands for.
+// The symbols of a format: which numbers that a receiver hands over are whole.
 pub trait Alphabet {
     ghost sound: { ℕ → Bool };
 
+    fn is_sound(symbol: u16) -> bool
+        ensures { result ≡ sound symbol };
+}
+
+// Which octet each symbol stands for, and which symbol each octet has. The check of a burst asks for no such code.
+pub trait SymbolCode {
     ghost octet_in: { ℕ → ℕ };
 
     ghost symbol_for: { ℕ → ℕ };
-
-    fn is_sound(symbol: u16) -> bool
-        ensures { result ≡ sound symbol };
 
     fn decode(symbol: u16) -> u8
         ensures { result ≡ octet_in symbol };
@@ -123,22 +126,26 @@ pub fn check_burst<A: Alphabet>(burst: &[u16], longest: usize) -> Result<(), Fau
     }
 }
 
-// The octets of a burst whose symbols are all sound, at the front of an array as long as the longest frame.
-pub fn open_burst<A: Alphabet, const LONGEST: usize>(burst: &[u16]) -> Result<[u8; LONGEST], Fault>
-    ensures { MatchResult result (λ octets. (line_checked A.sound LONGEST burst.now ≡ Ok tt) × (take (length burst.now) octets ≡ map A.octet_in burst.now)) (λ f. line_checked A.sound LONGEST burst.now ≡ Err f) }
+// Checks a burst, and puts its octets at the front of an array as long as the longest frame; a refusal leaves the array.
+// Into the caller's array, since one handed back would be copied for each burst.
+pub fn open_burst<A: Alphabet + SymbolCode, const LONGEST: usize>(
+    burst: &[u16],
+    octets: &mut [u8; LONGEST],
+) -> Result<(), Fault>
+    ensures answer { result ≡ line_checked A.sound LONGEST burst.now }
+    ensures opened { MatchResult result (λ _. take (length burst.now) octets.new ≡ map A.octet_in burst.now) (λ _. octets.new ≡ octets.old) }
 {
     check_burst::<A>(burst, LONGEST)?;
-    let mut octets = [0; LONGEST];
     // By index: through `iter_mut().zip(..)` a proof does not follow what is lent.
     for (i, symbol) in burst.iter().enumerate() {
         octets[i] = A::decode(*symbol);
     }
-    Ok(octets)
+    Ok(())
 }
 
 // The symbols of as many of the octets as there is room for, put into the buffer from a place on; answers the place
 // after them.
-pub fn encode_at<A: Alphabet>(buffer: &mut [u16], place: usize, octets: &[u8]) -> usize
+pub fn encode_at<A: SymbolCode>(buffer: &mut [u16], place: usize, octets: &[u8]) -> usize
     ensures end { result ≡ place + length (fitting place octets.now buffer.old) }
     ensures encoded { buffer.new ≡ encoded_at A.symbol_for place (fitting place octets.now buffer.old) buffer.old }
 {

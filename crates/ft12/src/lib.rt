@@ -84,7 +84,8 @@ impl Format for Ft12 {
 
     // The same two lines in each format: an array of `F::LONGEST` places cannot be made in generic code.
     fn read(burst: &[u16], user: &mut UserOctets) -> Result<Content, Fault> {
-        let octets = open_burst::<Ft12, { Self::LONGEST }>(burst)?;
+        let mut octets = [0; Self::LONGEST];
+        open_burst::<Ft12, { Self::LONGEST }>(burst, &mut octets)?;
         read_octets(&octets[..burst.len()], user)
     }
 }

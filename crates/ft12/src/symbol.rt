@@ -3,17 +3,13 @@ ghost use Rattle.ft12.specs.Symbols.{is_sound, octet_of, symbol_of};
 ghost use Rattle.std.specs.Prelude.{◌≡◌};
 
 use crate::Ft12;
-use frame::{Alphabet, Format};
+use frame::{Alphabet, Format, SymbolCode};
 
 // The stop bit. It is 1 in every symbol, and the start bit, bit 0, is 0.
 const STOP: u16 = 1 << 10;
 
 impl Alphabet for Ft12 {
     ghost sound = { is_sound };
-
-    ghost octet_in = { octet_of };
-
-    ghost symbol_for = { symbol_of };
 
     // No bit above the width; start bit 0, even parity, stop bit 1.
     fn is_sound(symbol: u16) -> bool {
@@ -22,6 +18,12 @@ impl Alphabet for Ft12 {
         let stop = symbol >> 10 & 1;
         symbol >> Ft12::WIDTH == 0 && start == 0 && ones % 2 == 0 && stop == 1
     }
+}
+
+impl SymbolCode for Ft12 {
+    ghost octet_in = { octet_of };
+
+    ghost symbol_for = { symbol_of };
 
     fn decode(symbol: u16) -> u8 {
         (symbol >> 1 & 0xFF) as u8

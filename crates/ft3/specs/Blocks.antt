@@ -23,8 +23,14 @@ cut k xs front rest e l =
           (ap (take k) e ∙ take_at front rest k all, ap (drop k) e ∙ drop_at front rest k all)
     ]
 
+pub count_none : (us : List ℕ) → length us ≡ 0 → block_count (length us) ≡ 0
+count_none us h = omega arith
+
 pub count_more : (us : List ℕ) → 0 < length us → block_count (length us) ≡ suc (block_count (length (drop 16 us)))
 count_more us h = simp length-drop (omega arith)
+
+pub blocks_none : (us : List ℕ) → length us ≡ 0 → all_blocks us ≡ []
+blocks_none us h = ap (λ k. blocks k us) (count_none us h)
 
 pub blocks_more :
     (us block rest : List ℕ) →

@@ -13,7 +13,9 @@ ghost use Rattle.ft3.specs.Exact;
 ghost use Rattle.ft3.specs.Guard;
 
 use fault::{Cause, Fault};
-use frame::{Alphabet, Content, Format, UserOctets, check_buffer, encode_at, open_burst};
+use frame::{
+    Alphabet, Content, Format, SymbolCode, UserOctets, check_buffer, encode_at, open_burst,
+};
 use reading::read_octets;
 use writing::{write_header, write_variable};
 
@@ -43,14 +45,16 @@ pub struct Ft3;
 impl Alphabet for Ft3 {
     ghost sound = { is_sound };
 
-    ghost octet_in = { λ symbol. symbol % 256 };
-
-    ghost symbol_for = { λ octet. octet };
-
     // No bit above the width.
     fn is_sound(symbol: u16) -> bool {
         symbol >> Ft3::WIDTH == 0
     }
+}
+
+impl SymbolCode for Ft3 {
+    ghost octet_in = { λ symbol. symbol % 256 };
+
+    ghost symbol_for = { λ octet. octet };
 
     fn decode(symbol: u16) -> u8 {
         (symbol % 256) as u8
@@ -99,7 +103,8 @@ impl Format for Ft3 {
     }
 
     fn read(burst: &[u16], user: &mut UserOctets) -> Result<Content, Fault> {
-        let octets = open_burst::<Ft3, { Self::LONGEST }>(burst)?;
+        let mut octets = [0; Self::LONGEST];
+        open_burst::<Ft3, { Self::LONGEST }>(burst, &mut octets)?;
         read_octets(&octets[..burst.len()], user)
     }
 }

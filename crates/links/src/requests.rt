@@ -28,18 +28,16 @@ pub fn link_asked(request: &Request, link: Link) -> Link
 }
 
 // The frame of an exchange, the same each time that it is sent. A send and a poll have the frame count bit.
+// Inlined, so that a telegram without octets is not copied with the room for them.
+#[inline(always)]
 pub fn transmission(exchange: &Exchange) -> Telegram
     ensures { result ≡ transmission exchange.now }
 {
-    let Exchange {
-        station: address,
-        request,
-        bit,
-        ..
-    } = *exchange;
-    let counted = matches!(request, Request::Send(_) | Request::Poll(_));
-    let control = Control::primary(counted && bit, counted, Function::from(request).into());
-    match request {
+    let address = exchange.station;
+    let counted = matches!(exchange.request, Request::Send(_) | Request::Poll(_));
+    let function = Function::from(exchange.request);
+    let control = Control::primary(counted && exchange.bit, counted, function.into());
+    match exchange.request {
         Request::Send(message) => Telegram::Variable {
             control,
             address,

@@ -144,7 +144,8 @@ impl<S: Slots> Queue<S> {
     {
         let x = self.oldest().ok_or(Fault::of(Cause::QueueEmpty))?;
         let count = self.slots.count();
-        self.first = slot_after(self.first, 1, count);
+        let next = slot_after(self.first, 1, count);
+        self.first = next;
         self.len -= 1;
         Ok(x)
     }

@@ -20,6 +20,12 @@ pub trait Slots {
         ensures { items self.new ≡ slice_set (items self.old) at x };
 }
 
+fn read_at<T: Copy>(all: &[T], at: usize) -> Option<T>
+    ensures { result ≡ slice_get all.now at }
+{
+    all.get(at).copied()
+}
+
 #[tactic(auto, using(std::proofs::lemmas::List::set_past))]
 fn write_at<T: Copy>(all: &mut [T], at: usize, x: T)
     ensures { all.new ≡ slice_set all.old at x }
@@ -40,7 +46,7 @@ impl<'a, T: Copy> Slots for &'a mut [T] {
     }
 
     fn read(&self, at: usize) -> Option<T> {
-        self.get(at).copied()
+        read_at(self, at)
     }
 
     fn write(&mut self, at: usize, x: T) {
@@ -59,7 +65,7 @@ impl<T: Copy> Slots for Vec<T> {
     }
 
     fn read(&self, at: usize) -> Option<T> {
-        self.get(at).copied()
+        read_at(self, at)
     }
 
     fn write(&mut self, at: usize, x: T) {
@@ -78,7 +84,7 @@ impl<T: Copy, const N: usize> Slots for [T; N] {
     }
 
     fn read(&self, at: usize) -> Option<T> {
-        self.as_slice().get(at).copied()
+        read_at(self.as_slice(), at)
     }
 
     fn write(&mut self, at: usize, x: T) {

@@ -1,32 +1,29 @@
 -- A hearing of a reader over a format: what it tells its caller, and what stands in the caller's buffer after it.
-use Rattle.std.specs.Prelude.{◌≡◌, ℕ, List, ◌++◌, length, drop, Ok, Err, Option, Result, nat_lt}
+use Rattle.std.specs.Prelude.{◌≡◌, ℕ, List, ◌++◌, length, drop, Ok, Err, Result, nat_lt}
 use Rattle.fault.specs.declared.Fault.{Fault}
 use Rattle.frame.specs.declared.Format.{Ghosts}
-use Rattle.reader.specs.Marking.{mark_told, marked_out}
 use Rattle.reader.specs.declared.Heard.{Heard}
 use Rattle.reader.specs.declared.hearing.Response.{Response}
 use Rattle.reader.specs.declared.hearing.Task.{Task}
 use Rattle.reader.specs.declared.hearing.Task.TheVariants as task
 use Rattle.rules.specs.Reader as rules
-use Rattle.rules.specs.Reader.{Reader, Turn, hear, hear_after, mark_heard, took_in}
+use Rattle.rules.specs.Reader.{Reader, Turn, hear, hear_after, took_in}
 use Rattle.rules.specs.Telegrams.{carried, telegram_read}
-use Rattle.rules.specs.declared.message.Message.{Message}
 
 -- a task as the rules speak of it
 abbrev pub task_of : Task → rules.Task
 task_of (task.Take m) = rules.take m
 task_of (task.Give c) = rules.give c
 
--- a turn before its answer is written, of a reader that has this out
-abbrev pub response : Option Message → Result Turn Fault → Result Response Fault
-response out (Err f) = Err f
-response out (Ok t) = Ok (record { answer = t.answer; taken = took_in t.deed; marked = marked_out t.mark out })
+-- a turn before its answer is written
+abbrev pub response : Result Turn Fault → Result Response Fault
+response (Err f) = Err f
+response (Ok t) = Ok (record { answer = t.answer; taken = took_in t.deed; mark = t.mark })
 
--- a call follows a turn: its answer and the reader after it are those of the turn, whose mark is that of a message out
+-- a call follows a turn: its answer and the reader after it are those of the turn
 pub record Follows (t : Result Turn Fault) (before after : Reader) (a : Result Response Fault) : Type 0 where
-  pub answer : a ≡ response before.out t
+  pub answer : a ≡ response t
   pub moved : after ≡ hear_after t before
-  pub mark : mark_told (marked_out (mark_heard t) before.out) ≡ mark_heard t
 
 module _ {X : Type 0} (F : Ghosts X) where
   -- the turn of a burst, with this buffer for the answer

@@ -1,4 +1,3 @@
 pub mod View
 pub mod Classes
-pub mod Marking
 pub mod Hearing

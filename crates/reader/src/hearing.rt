@@ -9,7 +9,7 @@ ghost use Rattle.rules.specs.Reader.{addressed, answer as answer_to, asked, clas
 ghost use Rattle.std.specs.Bool.{beq};
 ghost use Rattle.std.specs.Prelude.{◌≡◌, false, Some, None, Ok, OnErr};
 
-use crate::marking::{Marked, keep};
+use crate::marking::keep;
 use crate::{Heard, Reader};
 use fault::{Cause, Fault};
 use frame::{Control, Format, check_buffer};
@@ -26,23 +26,23 @@ enum Task {
     Give(Class),
 }
 
-// What a reader answers to a request, before the answer is written, and the message that it marked.
+// What a reader answers to a request, before the answer is written.
 #[derive(Clone, Copy)]
 struct Response {
     answer: Telegram,
     taken: bool,
-    marked: Option<Marked>,
+    mark: Option<Mark>,
 }
 
 impl Response {
     // An answer that moves nothing.
     fn still(answer: Telegram) -> Response
-        ensures { result ≡ record { answer = answer; taken = false; marked = None } }
+        ensures { result ≡ record { answer = answer; taken = false; mark = None } }
     {
         Response {
             answer,
             taken: false,
-            marked: None,
+            mark: None,
         }
     }
 }
@@ -64,13 +64,15 @@ impl<S: Slots<Item = Message>, F: Format> Reader<S, F> {
     {
         check_buffer(buffer, F::LONGEST)?;
         let telegram = read_telegram::<F>(burst)?;
+        // The one that a mark is of: another may be out after it.
+        let out = self.out;
         let Response {
             answer,
             taken,
-            marked: out,
+            mark,
         } = self.hear_telegram(telegram)?;
         let count = write_telegram::<F>(answer, buffer)?;
-        let mark = keep(out, marked);
+        keep(mark, out, marked);
         Ok(Heard { count, taken, mark })
     }
 
@@ -157,11 +159,11 @@ impl<S: Slots<Item = Message>, F: Format> Reader<S, F> {
     {
         self.link = Link::reset();
         self.stored = None;
-        let marked = self.mark_out(Mark::Doubtful);
+        let mark = self.mark_out(Mark::Doubtful);
         Response {
             answer: self.says_briefly(Reply::Ack),
             taken: false,
-            marked,
+            mark,
         }
     }
 
@@ -205,15 +207,15 @@ impl<S: Slots<Item = Message>, F: Format> Reader<S, F> {
     }
 
     // The answer is stored, for a repetition of its request.
-    fn store(&mut self, answer: Telegram, taken: bool, marked: Option<Marked>) -> Response
-        ensures answer { result ≡ record { answer = answer; taken = taken; marked = marked } }
+    fn store(&mut self, answer: Telegram, taken: bool, mark: Option<Mark>) -> Response
+        ensures answer { result ≡ record { answer = answer; taken = taken; mark = mark } }
         ensures moved { view S.items self.new ≡ with_link self.old.link (Some answer) self.old.out (view S.items self.old) }
     {
         self.stored = Some(answer);
         Response {
             answer,
             taken,
-            marked,
+            mark,
         }
     }
 

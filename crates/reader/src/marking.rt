@@ -1,5 +1,4 @@
 // What becomes of the message that a reader has handed out.
-ghost use Rattle.reader.specs.Marking.{mark_told, marked_out, record_with};
 ghost use Rattle.reader.specs.View.{view};
 ghost use Rattle.rules.specs.Links.{flipped};
 ghost use Rattle.rules.specs.Reader.{marked as mark_of, record_after, restarted, with_link};
@@ -12,21 +11,13 @@ use queue::Slots;
 use rules::message::Message;
 use rules::records::Mark;
 
-// A message that was out, with the mark that it got.
-#[derive(Clone, Copy)]
-pub(crate) struct Marked {
-    pub(crate) mark: Mark,
-    pub(crate) message: Message,
-}
-
-// A message that was marked stands in the caller's record, which is otherwise left.
-pub(crate) fn keep(out: Option<Marked>, marked: &mut Message) -> Option<Mark>
-    ensures answer { result ≡ mark_told out }
-    ensures kept { marked.new ≡ record_with out marked.old }
+// The message that was out, if it got a mark, stands in the caller's record, which is otherwise left.
+pub(crate) fn keep(mark: Option<Mark>, out: Option<Message>, marked: &mut Message)
+    ensures { marked.new ≡ record_after mark out marked.old }
 {
-    let Marked { mark, message } = out?;
-    *marked = message;
-    Some(mark)
+    if let (Some(_), Some(message)) = (mark, out) {
+        *marked = message;
+    }
 }
 
 impl<S: Slots<Item = Message>, F: Format> Reader<S, F> {
@@ -39,13 +30,15 @@ impl<S: Slots<Item = Message>, F: Format> Reader<S, F> {
     {
         self.link = self.link.unset();
         self.stored = None;
-        keep(self.mark_out(Mark::Doubtful), marked)
+        let out = self.out;
+        let mark = self.mark_out(Mark::Doubtful);
+        keep(mark, out, marked);
+        mark
     }
 
     // The expected bit has come: it flips, and the message out is settled.
-    pub(crate) fn settle(&mut self) -> Option<Marked>
-        ensures answer { result ≡ marked_out (mark_of Settled self.old.out) self.old.out }
-        ensures mark { mark_told result ≡ mark_of Settled self.old.out }
+    pub(crate) fn settle(&mut self) -> Option<Mark>
+        ensures answer { result ≡ mark_of Settled self.old.out }
         ensures moved { view S.items self.new ≡ with_link (flipped self.old.link) self.old.stored None (view S.items self.old) }
     {
         self.link = self.link.flipped();
@@ -53,12 +46,11 @@ impl<S: Slots<Item = Message>, F: Format> Reader<S, F> {
     }
 
     // Marks the message out, which is out no more.
-    pub(crate) fn mark_out(&mut self, mark: Mark) -> Option<Marked>
-        ensures answer { result ≡ marked_out (mark_of mark self.old.out) self.old.out }
-        ensures mark { mark_told result ≡ mark_of mark self.old.out }
+    pub(crate) fn mark_out(&mut self, mark: Mark) -> Option<Mark>
+        ensures answer { result ≡ mark_of mark self.old.out }
         ensures moved { view S.items self.new ≡ with_link self.old.link self.old.stored None (view S.items self.old) }
     {
-        let message = self.out.take()?;
-        Some(Marked { mark, message })
+        self.out.take()?;
+        Some(mark)
     }
 }

@@ -148,7 +148,9 @@ pub enum UserRequest<'a> {
 
 impl UserRequest<'_> {
     // 15 unless a send has 1 to 64 octets, 16 unless a poll is of class 1 or 2. A method and no TryFrom, so that it reads
-    // `asked.request()?` where it is asked.
+    // `asked.request()?` where it is asked. Inlined, as `open` of the concentrator is: a request has room for a message, and
+    // would be copied with it.
+    #[inline(always)]
     pub fn request(self) -> Result<Request, Fault>
         ensures { result ≡ request_of (asking self.entry) }
     {

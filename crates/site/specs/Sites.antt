@@ -36,7 +36,7 @@ use Rattle.std.specs.declared.alloc.Global.{Global}
 -- what a site has in memory
 abbrev pub seen : {F : Type 0} → Site F → Memory
 seen s = record {
-  concentrator = concentrator.view s.concentrator;
+  concentrator = concentrator.view vec_items vec_items s.concentrator;
   readers = readers s.readers;
   line = line.view s.line;
   started = s.started;

@@ -11,4 +11,4 @@ loop-i-preserved g c =
     let room : c.args.place + length os ≤ length c.args.buffer.now =
     omega (arith, length-take c.min.result c.args.octets.now, min-le_left c.min.result n, min-le_left c.saturating_sub-room.result n)
     in
-    encode_more g.A.Alphabet.symbol_for os c.args.buffer.now c.loop-i.buffer c.args.place c.loop-i.i c.encode.result c.loop-i-test.true room c.encode.ensures c.loop-i.invariant
+    encode_more g.A.SymbolCode.symbol_for os c.args.buffer.now c.loop-i.buffer c.args.place c.loop-i.i c.encode.result c.loop-i-test.true room c.encode.ensures c.loop-i.invariant

@@ -9,6 +9,6 @@ loop-i-preserved g c =
     let b = c.args.burst.now in
     let line = line_ok g.A.Alphabet.sound g.row.LONGEST b (sym c.in_ok-check_burst.ensures) in
     let room : c.loop-i.i < length c.loop-i.octets = omega (arith, line.1, length-replicate {A = ℕ}) in (
-      decode_more g.A.Alphabet.octet_in c.loop-i.octets b c.loop-i.i c.decode.result c.loop-i-test.true room c.decode.ensures c.loop-i.invariant.0,
+      decode_more g.A.SymbolCode.octet_in c.loop-i.octets b c.loop-i.i c.decode.result c.loop-i-test.true room c.decode.ensures c.loop-i.invariant.0,
       length-set c.loop-i.octets c.loop-i.i _ ∙ c.loop-i.invariant.1,
     )

@@ -17,8 +17,8 @@ returns-in_err-x g c =
       refused = search rules;
     }
 
-pub slot_after-self-requires : goal.slot_after-self-requires
-slot_after-self-requires g c =
+pub slot_after-next-requires : goal.slot_after-next-requires
+slot_after-next-requires g c =
     let s : Some c.in_ok-x.x ≡ oldest (contents g.S.Slots.items c.args.self.now) = search rules in
     let h = has_record g.S.Slots.items c.args.self.now (some_oldest _ _ s).0 in
     let w = h.0 in
@@ -34,5 +34,5 @@ overflow_sub-self g c =
 pub returns : goal.returns
 returns g c =
     let s : Some c.in_ok-x.x ≡ oldest (contents g.S.Slots.items c.args.self.now) = search rules in
-    let p = after_take g.S.Slots.items c.args.self.now _ c.in_ok-x.x c.count-count.result s c.count-count.ensures refl c.slot_after-self.ensures refl in
+    let p = after_take g.S.Slots.items c.args.self.now _ c.in_ok-x.x c.count-count.result s c.count-count.ensures refl c.slot_after-next.ensures refl in
     record { answer = p.0; held = p.1; room = p.2; store = refl {a = c.args.self.now.slots}; first = p.3; refused = tt }

@@ -25,6 +25,6 @@ long_enough longest buffer f u e = grind (arith, nat_tests)
 pub returns-in_err-count : goal.returns-in_err-count
 returns-in_err-count g c =
     let F = g.F.Format in
-    let passed : c.LONGEST.result ≤ length c.args.buffer.now = long_enough _ _ _ _ c.in_ok-check_buffer.ensures in
-    let room : F.LONGEST ≤ length c.args.buffer.now = omega arith in
+    let passed = long_enough _ _ _ _ c.in_ok-check_buffer.ensures in
+    let room : F.LONGEST ≤ length c.args.buffer.now = omega (arith, passed) in
     absurd (written F.LONGEST F.frame c.in_ok-answer.field-0.answer c.args.buffer.now _ room c.in_err-count.ensures.answer)

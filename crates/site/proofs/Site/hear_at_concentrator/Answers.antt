@@ -17,7 +17,7 @@ returns g c =
     let k = c.args.k in
     let m = seen c.args.self.now in
     let m₁ = seen c.make_ready.new.self in
-    let m₂ : Memory = record { concentrator = view c.hear-outcome.new.self; readers = m₁.readers; line = m₁.line; started = m₁.started } in
+    let m₂ : Memory = record { concentrator = view vec_items vec_items c.hear-outcome.new.self; readers = m₁.readers; line = m₁.line; started = m₁.started } in
     let m' = seen c.conclude.new.self in
     let r = c.conclude.result in
     let heard = c.in_ok-heard.heard.items in

@@ -1,4 +1,4 @@
-use Rattle.std.proofs.Common.{length, refl, ap, ◌∙◌}
+use Rattle.std.proofs.Common.{vec_items, length, refl, ap, ◌∙◌}
 use Rattle.concentrator.specs.View.{view}
 use Rattle.rules.specs.Concentrator.{asking}
 use Rattle.site.proofs.Site.request.Goals as goal
@@ -10,7 +10,7 @@ transmit-requires g c =
     let p = c.in_ok-buffer.ensures in
     let s = c.request-sent.ensures in (
       p.room,
-      ready_sent g.F.Format.frame _ c.args.station (asking c.args.asked) (seen c.prepare.new.self).concentrator (view c.request-sent.new.self) c.request-sent.result
+      ready_sent g.F.Format.frame _ c.args.station (asking c.args.asked) (seen c.prepare.new.self).concentrator (view vec_items vec_items c.request-sent.new.self) c.request-sent.result
           c.prepare.new.self.readers s.answer s.moved p.ready,
     )
 

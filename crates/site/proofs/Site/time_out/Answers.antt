@@ -1,4 +1,4 @@
-use Rattle.std.proofs.Common.{◌≡◌, ltb, length, Ok, Err, sym, refl, ap, ◌∙◌, subst}
+use Rattle.std.proofs.Common.{◌≡◌, vec_items, ltb, length, Ok, Err, sym, refl, ap, ◌∙◌, subst}
 use Rattle.account.specs.Line.{times_out}
 use Rattle.concentrator.specs.View.{view}
 use Rattle.site.proofs.Site.time_out.Goals as goal
@@ -15,7 +15,7 @@ returns g c =
     let p = c.in_ok-buffer.ensures in
     let s = c.time_out-timed.ensures in
     let m₁ = seen c.prepare.new.self in
-    let m₂ : Memory = record { concentrator = view c.time_out-timed.new.self; readers = m₁.readers; line = m₁.line; started = m₁.started } in
+    let m₂ : Memory = record { concentrator = view vec_items vec_items c.time_out-timed.new.self; readers = m₁.readers; line = m₁.line; started = m₁.started } in
     let silent = c.if-not-is_silent.ensures.0 refl in
     let k = time_outs_come F (seen c.args.self.now) m₁ m₂ (seen c.repeat.new.self) c.args.places silent c.exchange-exchange.result c.exchange-exchange.ensures
     c.deref_mut.result.now _ c.time_out-timed.result (Ok c.repeat.result) p.same (ap length c.deref_mut.ensures.value ∙ p.buffer) refl refl s.answer s.moved
@@ -29,7 +29,7 @@ returns-in_err-timed-clause-steps g c =
     let p = c.in_ok-buffer.ensures in
     let s = c.time_out-timed.ensures in
     let m₁ = seen c.prepare.new.self in
-    let m₂ : Memory = record { concentrator = view c.time_out-timed.new.self; readers = m₁.readers; line = m₁.line; started = m₁.started } in
+    let m₂ : Memory = record { concentrator = view vec_items vec_items c.time_out-timed.new.self; readers = m₁.readers; line = m₁.line; started = m₁.started } in
     let silent = c.if-not-is_silent.ensures.0 refl in
     let k = time_outs_come F (seen c.args.self.now) m₁ m₂ (begun m₂) c.args.places silent c.exchange-exchange.result c.exchange-exchange.ensures
     c.deref_mut.result.now c.time_out-timed.new.buffer c.time_out-timed.result (Err (Refused c.in_err-timed.field-0.0)) p.same (ap length c.deref_mut.ensures.value ∙ p.buffer) refl refl s.answer s.moved

@@ -2,7 +2,7 @@ use Rattle.std.proofs.Common.{◌≡◌, ◌*◌, ◌%◌, ◌∙◌, ap₂, ari
 use lib.Bits.{bit_or}
 use lib.Count.{ones}
 use Rattle.ft12.specs.SymbolsLemmas.{joined}
-use Rattle.ft12.proofs.symbol.Ft12Alphabet.encode.Goals as goal
+use Rattle.ft12.proofs.symbol.Ft12SymbolCode.encode.Goals as goal
 
 pub returns : goal.returns
 returns c =
