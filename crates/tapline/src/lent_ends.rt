@@ -9,7 +9,7 @@ use rules::records::{Arrival, Outcome, Report, UserRequest};
 
 const STATION: u8 = 5;
 
-// A reset sets the link at both ends.
+// A reset sets the link at both ends, and marks nothing, as nothing is out.
 #[test]
 fn a_link_is_set(rt: HostRuntime) {
     let mut arrivals = [Arrival::BLANK; 2];
@@ -33,6 +33,7 @@ fn a_link_is_set(rt: HostRuntime) {
     let Ok(heard) = reader.hear(&asked[..5], &mut marked, &mut answered) else {
         return assert!(rt; false, "no answer");
     };
+    assert!(rt; heard.mark.is_none());
     let answer = &answered[..heard.count.min(Ft12::LONGEST)];
     assert!(rt; matches!(concentrator.hear(answer), Ok(Outcome::Done)));
     assert!(rt; concentrator.link(STATION).set && reader.link().set);
