@@ -1,5 +1,5 @@
 -- A hearing of a reader over a format: what it tells its caller, and what stands in the caller's buffer after it.
-use Rattle.std.specs.Prelude.{◌≡◌, ℕ, List, ◌++◌, length, drop, None, Some, Ok, Err, Option, Result, nat_lt}
+use Rattle.std.specs.Prelude.{◌≡◌, ℕ, List, ◌++◌, length, drop, None, Ok, Err, Result, nat_lt}
 use Rattle.fault.specs.declared.Fault.{Fault}
 use Rattle.frame.specs.declared.Format.{Ghosts}
 use Rattle.reader.specs.declared.Heard.{Heard}
@@ -7,10 +7,8 @@ use Rattle.reader.specs.declared.hearing.Response.{Response}
 use Rattle.reader.specs.declared.hearing.Task.{Task}
 use Rattle.reader.specs.declared.hearing.Task.TheVariants as task
 use Rattle.rules.specs.Reader as rules
-use Rattle.rules.specs.Reader.{Reader, Turn, hear, hear_after, mark_heard, marked, took_in}
+use Rattle.rules.specs.Reader.{Reader, Turn, hear, hear_after, mark_heard, took_in}
 use Rattle.rules.specs.Telegrams.{carried, telegram_read}
-use Rattle.rules.specs.declared.message.Message.{Message}
-use Rattle.rules.specs.declared.records.Mark.{Mark}
 
 -- a task as the rules speak of it
 abbrev pub task_of : Task → rules.Task
@@ -22,16 +20,11 @@ abbrev pub response : Result Turn Fault → Result Response Fault
 response (Err f) = Err f
 response (Ok t) = Ok (record { answer = t.answer; taken = took_in t.deed; mark = t.mark })
 
--- a mark, where a message is out to have it
-abbrev pub mark_if_out : Option Mark → Option Message → Option Mark
-mark_if_out None out = None
-mark_if_out (Some k) out = marked k out
-
--- a call follows a turn: its answer and the reader after it are those of the turn, whose mark is that of a message out
+-- a call follows a turn: its answer and the reader after it are those of the turn, which marks nothing where nothing was out
 pub record Follows (t : Result Turn Fault) (before after : Reader) (a : Result Response Fault) : Type 0 where
   pub answer : a ≡ response t
   pub moved : after ≡ hear_after t before
-  pub mark : mark_if_out (mark_heard t) before.out ≡ mark_heard t
+  pub mark : before.out ≡ None → mark_heard t ≡ None
 
 module _ {X : Type 0} (F : Ghosts X) where
   -- the turn of a burst, with this buffer for the answer
